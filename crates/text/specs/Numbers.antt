@@ -1,5 +1,5 @@
 -- Numbers as a line has them, in bytes. Assumes nothing.
-use Prim.Native.Nat.{ℕ, _+_, _-_, _*_, _/_, _%_}
+use Prim.Native.Nat.{ℕ, _+_, _-_, _*_}
 use mathlib.Core.Bool.{Bool, true, cond, _&&_}
 use mathlib.Core.List.{List, [], _∷_}
 use lib.Dec.{leb}
@@ -26,15 +26,3 @@ decimal-value bs = folded (λ n b. n * 10 + (b - 48)) 0 bs
 -- a number is 1 to 6 decimal digits
 abbrev pub number-of : List ℕ → Result ℕ Refusal
 number-of bs = cond (leb 1 (length bs) && (leb (length bs) 6 && all-digits bs)) (Ok (decimal-value bs)) (Err BadLine)
-
--- the byte of a digit
-abbrev pub digit-byte : ℕ → ℕ
-digit-byte d = 48 + d
-
--- a number below 100 in decimal, without a leading zero
-abbrev pub decimal : ℕ → List ℕ
-decimal n = cond (leb n 9) (digit-byte n ∷ []) (digit-byte (n / 10) ∷ (digit-byte (n % 10) ∷ []))
-
--- a number below 100 in two places, filled with a space on the left
-abbrev pub two-places : ℕ → List ℕ
-two-places n = cond (leb n 9) (32 ∷ (digit-byte n ∷ [])) (digit-byte (n / 10) ∷ (digit-byte (n % 10) ∷ []))

@@ -1,4 +1,4 @@
 // Numbers and pieces of a line of text, as bytes. Nothing here allocates.
 // Assumes nothing.
+pub mod cut;
 pub mod number;
-pub mod pieces;

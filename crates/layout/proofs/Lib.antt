@@ -1,0 +1,3 @@
+pub mod Quoting
+pub mod Reading
+pub mod Tables

@@ -1,0 +1,9 @@
+pub mod Climbs
+pub mod Nearer
+pub mod Lawful
+pub mod Neighbours
+pub mod Lanes
+pub mod Facts
+pub mod Paths
+pub mod Laws
+pub mod Examples
