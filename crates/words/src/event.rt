@@ -37,7 +37,7 @@ const REFUSED: u32 = 12;
 const HIGHEST_REFUSAL: u32 = 255;
 
 // What an accepted call did, or the number of a refusal.
-#[derive(Clone, Copy, PartialEq, Eq, Debug)]
+#[derive(Clone, Copy)]
 pub enum Event {
     // The group is open; its highest panel number.
     Opened {

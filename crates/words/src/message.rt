@@ -12,7 +12,7 @@ const FIND: u32 = 1;
 const BOOK: u32 = 2;
 
 // What a parcel is for: a find word looks for the book on behalf of the panel that asks, a book word brings it to a panel.
-#[derive(Clone, Copy, PartialEq, Eq, Debug)]
+#[derive(Clone, Copy)]
 pub enum Message {
     Find { asker: usize },
     Book { addressee: usize },
