@@ -1,7 +1,7 @@
 -- The equations of `distance` and `first-step`, proved once; nothing else unfolds the recursions.
 -- Assumes of the list of parents only that a parent is below its child, the fact `Falls`.
 use mathlib.Core.Path.{_≡_, refl, sym, ap, _∙_}
-use mathlib.Core.Logic.{_≢_, _⊎_, inl, inr}
+use mathlib.Core.Logic.{_≢_, inl, inr}
 use mathlib.Core.List.{List}
 use Prim.Native.Nat.{ℕ, zero, suc, _+_, _≤_, _<_}
 use native.Mathlib.Omega.{arith}

@@ -1,10 +1,10 @@
 -- The facts on trees that other proofs cite, over a list of parents and the fact that it is lawful.
 -- Assumes nothing. Each lemma takes the list and that fact first, then the panels or lanes, then its premises.
-use mathlib.Core.Path.{_≡_, refl, sym, ap, subst, _∙_}
+use mathlib.Core.Path.{_≡_, sym, ap, subst, _∙_}
 use mathlib.Core.Bool.{true}
 use mathlib.Core.Logic.{_≢_, _⊎_, inl, inr}
 use mathlib.Core.List.{List}
-use Prim.Native.Nat.{ℕ, suc, _+_, _-_, _≤_, _<_}
+use Prim.Native.Nat.{ℕ, suc, _+_, _≤_, _<_}
 use native.Mathlib.Omega.{arith}
 use lib.ListN.{length}
 use Rattle.std.proofs.shelf.Lists.{getD-past}
@@ -12,7 +12,7 @@ use Rattle.std.proofs.shelf.Tests.{cases-eq, cases-lt}
 use Rattle.tree.specs.Tree.{most-panels, parent, lawful-tree, distance, first-step, neighbours, lane-count, lane-source, lane-target, lane-between}
 use Rattle.tree.specs.declared.cables.Tree.{Tree}
 use Rattle.tree.specs.Answers.{parents}
-use Rattle.tree.proofs.Climbs.{Falls, distance-same, distance-left, distance-right, first-step-same, first-step-up, first-step-child, first-step-down}
+use Rattle.tree.proofs.Climbs.{distance-same, distance-left, distance-right, first-step-same, first-step-up, first-step-child, first-step-down}
 use Rattle.tree.proofs.Nearer.{symmetric, zero-apart, within-larger, edge, step}
 use Rattle.tree.proofs.Lawful.{lawful-read}
 use Rattle.tree.proofs.Neighbours.{Cable, neighbours-read, neighbours-made}

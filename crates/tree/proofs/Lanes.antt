@@ -1,13 +1,12 @@
 -- The lanes of a tree: the ends of a lane, and the lane between two neighbours.
 -- Assumes of the list of parents only that a parent is below its child, the fact `Falls`.
-use mathlib.Core.Path.{_≡_, refl, sym, ap, subst, _∙_}
-use mathlib.Core.Bool.{Bool, true, false, cond}
-use mathlib.Core.Logic.{_≢_, _⊎_, inl, inr}
+use mathlib.Core.Path.{_≡_, refl, ap, _∙_}
+use mathlib.Core.Bool.{true, false}
+use mathlib.Core.Logic.{_≢_, inl, inr}
 use mathlib.Core.List.{List}
-use Prim.Native.Nat.{ℕ, _+_, _-_, _*_, _/_, _%_, _≤_, _<_}
+use Prim.Native.Nat.{ℕ, _%_, _<_}
 use native.Mathlib.Omega.{arith}
 use lib.Dec.{eqb}
-use lib.ListN.{length}
 use Rattle.std.proofs.shelf.Tests.{cases-bool, cases-eq, cond-true, cond-false, eq-eqb, ne-eqb}
 use Rattle.tree.specs.Tree.{parent, child, neighbours, lane-count, up-lane, down-lane, lane-child, lane-source, lane-target, lane-between}
 use Rattle.tree.proofs.Climbs.{Falls}

@@ -1,14 +1,13 @@
 -- The laws, put together from the facts. Assumes nothing.
 use mathlib.Core.Path.{_≡_}
 use mathlib.Core.Bool.{true}
-use mathlib.Core.Logic.{_≢_, _⊎_, inl, inr}
+use mathlib.Core.Logic.{_≢_, inl, inr}
 use mathlib.Core.List.{List}
-use Prim.Native.Nat.{ℕ, _+_, _≤_, _<_}
+use Prim.Native.Nat.{ℕ, _+_}
 use native.Mathlib.Omega.{arith}
-use lib.ListN.{length}
 use Rattle.std.proofs.shelf.Tests.{cases-eq}
 use Rattle.tree.specs.Tree.{lawful-tree, distance, first-step, neighbours}
-use Rattle.tree.specs.Laws.{Measures, Distance-law, Nearer, Nearer-law, Only-path-law, Lane-law}
+use Rattle.tree.specs.Laws.{Distance-law, Nearer-law, Only-path-law, Lane-law}
 use Rattle.tree.proofs.Facts.{distance-symmetric, distance-from-equal, equal-from-distance, distance-below, first-step-neighbour, first-step-nearer, other-neighbour-farther, lane-ends-neighbours, lane-of-ends, lane-between-below, lane-between-source, lane-between-target}
 use Rattle.tree.proofs.Paths.{path-cables, path-exists}
 

@@ -2,15 +2,15 @@
 -- Assumes nothing.
 use mathlib.Core.Path.{_≡_, refl, sym, ap, subst, _∙_}
 use mathlib.Core.Bool.{true}
-use mathlib.Core.Logic.{_≢_, _⊎_, inl, inr}
+use mathlib.Core.Logic.{_≢_, inl, inr}
 use mathlib.Core.List.{List, [], _∷_}
-use Prim.Native.Nat.{ℕ, zero, suc, _+_, _-_, _≤_, _<_}
+use Prim.Native.Nat.{ℕ, zero, suc, _≤_, _<_}
 use native.Mathlib.Omega.{arith}
 use lib.ListN.{length, getD}
 use Rattle.std.proofs.shelf.Tests.{cases-eq}
-use Rattle.tree.specs.Tree.{lawful-tree, distance, first-step, neighbours}
+use Rattle.tree.specs.Tree.{lawful-tree, distance, first-step}
 use Rattle.tree.specs.Laws.{Walk, stay, go, Repeats-none, cables}
-use Rattle.tree.proofs.Facts.{distance-symmetric, distance-self, equal-from-distance, neighbours-apart, first-step-self, first-step-neighbour, first-step-exists, first-step-nearer, first-step-back, other-neighbour-farther, first-step-to-neighbour}
+use Rattle.tree.proofs.Facts.{distance-symmetric, distance-self, equal-from-distance, neighbours-apart, first-step-self, first-step-neighbour, first-step-exists, first-step-nearer, first-step-back}
 
 -- panel v stands nowhere in the list
 abbrev Absent : ℕ → List ℕ → Type 0

@@ -11,7 +11,7 @@ use Rattle.std.specs.declared.result.Result.the-variants.{Ok, Err}
 use Rattle.words.specs.declared.refusal.Refusal.{Refusal}
 use Rattle.words.specs.declared.refusal.Refusal.the-variants.{UnlawfulTree, NoSuchPanel, NoSuchLane}
 use Rattle.tree.specs.declared.cables.Tree.{Tree}
-use Rattle.tree.specs.Tree.{lawful-tree, exists, neighbours, distance, first-step, lane-count, up-lane, down-lane, lane-between, lane-source, lane-target}
+use Rattle.tree.specs.Tree.{lawful-tree, exists, neighbours, distance, first-step, lane-count, lane-between, lane-source, lane-target}
 
 -- the meaning of a tree: its list of parents
 abbrev pub parents : Tree → List ℕ
@@ -26,18 +26,22 @@ Made-of ps (Err e) = (lawful-tree ps ≡ false) × (e ≡ UnlawfulTree)
 abbrev pub of-panels : {X : Type 0} → List ℕ → ℕ → ℕ → Result X Refusal → Result X Refusal
 of-panels ps a b answer = cond (exists ps a && exists ps b) answer (Err NoSuchPanel)
 
+-- the distance of two panels
 abbrev pub distance-answer : List ℕ → ℕ → ℕ → Result ℕ Refusal
 distance-answer ps a b = of-panels ps a b (Ok (distance ps a b))
 
+-- the first step from panel u to panel a
 abbrev pub first-step-answer : List ℕ → ℕ → ℕ → Result ℕ Refusal
 first-step-answer ps u a = of-panels ps u a (Ok (first-step ps u a))
 
--- panel 0 has no parent, so no lane
+-- a lane between panel v and its parent; panel 0 has no parent, so no such lane
 abbrev pub panel-lane : List ℕ → ℕ → ℕ → Result ℕ Refusal
 panel-lane ps v lane = cond (exists ps v) (cond (eqb v 0) (Err NoSuchLane) (Ok lane)) (Err NoSuchPanel)
 
+-- the lane from panel w to panel u, which have to be neighbours
 abbrev pub lane-answer : List ℕ → ℕ → ℕ → Result ℕ Refusal
 lane-answer ps w u = of-panels ps w u (cond (neighbours ps w u) (Ok (lane-between ps w u)) (Err NoSuchLane))
 
+-- the panels that lane k comes from and goes to
 abbrev pub ends-answer : List ℕ → ℕ → Result (ℕ × ℕ) Refusal
 ends-answer ps k = cond (ltb k (lane-count ps)) (Ok (lane-source ps k, lane-target ps k)) (Err NoSuchLane)

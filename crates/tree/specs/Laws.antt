@@ -7,13 +7,14 @@ use Prim.Native.Nat.{ℕ, _+_, _-_, _≤_, _<_}
 use lib.ListN.{length, getD}
 use Rattle.tree.specs.Tree.{lawful-tree, distance, first-step, neighbours, lane-count, lane-source, lane-target, lane-between}
 
--- distance as a measure of panels: the same both ways, 0 between equals and only there, and at most n - 1
+-- the distance of a and b is the same both ways, 0 exactly where they are equal, and at most n - 1
 pub record Measures (ps : List ℕ) (a b : ℕ) : Type 0 where
   pub symmetric : distance ps a b ≡ distance ps b a
   pub zero-if-equal : a ≡ b → distance ps a b ≡ 0
   pub equal-if-zero : distance ps a b ≡ 0 → a ≡ b
   pub at-most : distance ps a b ≤ length ps - 1
 
+-- so it is in every lawful tree
 abbrev pub Distance-law : Type 0
 Distance-law =
     (ps : List ℕ) → lawful-tree ps ≡ true → (a b : ℕ) → a < length ps → b < length ps → Measures ps a b
@@ -25,6 +26,7 @@ pub record Nearer (ps : List ℕ) (u a : ℕ) : Type 0 where
   pub no-other : (x : ℕ) → neighbours ps u x ≡ true → distance ps x a < distance ps u a → x ≡ first-step ps u a
   pub others : (x : ℕ) → neighbours ps u x ≡ true → (x ≡ first-step ps u a → ⊥) → distance ps x a ≡ distance ps u a + 1
 
+-- so it is in every lawful tree, for u other than a
 abbrev pub Nearer-law : Type 0
 Nearer-law =
     (ps : List ℕ) → lawful-tree ps ≡ true → (u a : ℕ) → u < length ps → a < length ps → (u ≡ a → ⊥) → Nearer ps u a

@@ -2,7 +2,7 @@
 -- Assumes nothing. Every definition is for any list and any numbers; `lawful-tree` says which lists are trees.
 use mathlib.Core.Bool.{Bool, true, false, cond, _&&_, _||_}
 use mathlib.Core.List.{List, [], _∷_}
-use Prim.Native.Nat.{ℕ, zero, suc, _+_, _-_, _*_, _/_, _%_, compare, Ordering, Ordering·lt, Ordering·eq, Ordering·gt}
+use Prim.Native.Nat.{ℕ, zero, suc, _+_, _-_, _*_, _/_, _%_, compare, Ordering·lt, Ordering·eq, Ordering·gt}
 use lib.Dec.{eqb, leb, ltb}
 use lib.ListN.{length, getD}
 

@@ -18,6 +18,7 @@ impl Tree {
         if a >= self.panels() || b >= self.panels() {
             return Err(Refusal::NoSuchPanel);
         }
+        // The path from the larger of two panels begins upwards: what is below it has larger numbers.
         let mut left = a;
         let mut right = b;
         let mut cables = 0;
@@ -40,6 +41,7 @@ impl Tree {
         if from >= self.panels() || to >= self.panels() {
             return Err(Refusal::NoSuchPanel);
         }
+        // The path to a larger panel comes down to it from its parent, so the goal climbs until it is near.
         let mut goal = to;
         while from < goal {
             let above = self.parent(goal);

@@ -1,5 +1,6 @@
+-- The invariant and the measure of the loop. Assumes nothing.
 use mathlib.Core.Path.{_≡_}
-use Prim.Native.Nat.{_+_, _≤_, _<_}
+use Prim.Native.Nat.{_+_, _≤_}
 use Rattle.tree.specs.Tree.{distance}
 use Rattle.tree.specs.Answers.{parents}
 use Rattle.tree.proofs.cables.Tree.distance.Given as given

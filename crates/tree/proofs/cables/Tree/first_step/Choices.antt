@@ -1,3 +1,4 @@
+-- The invariant and the measure of the loop. Assumes nothing.
 use mathlib.Core.Path.{_≡_}
 use Rattle.tree.specs.Tree.{first-step}
 use Rattle.tree.specs.Answers.{parents}

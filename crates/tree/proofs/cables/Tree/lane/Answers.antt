@@ -1,7 +1,5 @@
 -- The two tests of the code are the two ways to be neighbours. Assumes nothing.
-use native.Mathlib.Omega.{arith}
 use borrow.Author.Needs.{needs}
-use Rattle.std.proofs.shelf.Ways.{tells}
 use Rattle.tree.specs.Tree.{neighbours, lane-between}
 use Rattle.tree.proofs.cables.Tree.lane.Needs as need
 

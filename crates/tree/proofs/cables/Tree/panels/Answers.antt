@@ -10,5 +10,5 @@ use Rattle.tree.proofs.cables.Tree.panels.Needs as need
 
 pub returns : need.returns
 returns c =
-    let value : c .args .self .now .count ≡ length (parents (c .args .self .now)) = search (needs, length-take-le) in
-    record { answer = value; within = omega (arith, some-panel (parents (c .args .self .now)) (c .args .self .now .lawful)) }
+    let size : length (parents (c .args .self .now)) ≡ c .args .self .now .count = length-take-le (c .args .self .now .count) (c .args .self .now .entries) (omega arith) in
+    record { answer = search needs; within = omega (arith, some-panel (parents (c .args .self .now)) (c .args .self .now .lawful)) }

@@ -1,4 +1,4 @@
-use mathlib.Core.Path.{_≡_}
+-- The invariant of the loop. Assumes nothing.
 use Prim.Native.Nat.{ℕ, _<_}
 use Rattle.tree.specs.Tree.{parent}
 use Rattle.tree.proofs.cables.making.is_lawful.Given as given
