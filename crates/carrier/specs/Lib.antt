@@ -1,0 +1,4 @@
+pub mod Carriers
+pub mod Loopback
+pub mod Parcels
+pub mod Stored
