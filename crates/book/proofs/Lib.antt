@@ -1,0 +1,4 @@
+pub mod Answered
+pub mod Ledgers
+pub mod Numbers
+pub mod Pages
