@@ -1,6 +1,6 @@
 -- What waits on the line and on the tray, and which parcel the tray gives. Assumes nothing.
 use Prim.Native.Nat.{ℕ, _+_, _*_, _/_, _%_, _^_}
-use mathlib.Core.Bool.{Bool, cond}
+use mathlib.Core.Bool.{cond}
 use lib.Dec.{eqb}
 use Rattle.carrier.specs.Parcels.{Lanes}
 use Rattle.carrier.specs.Stored.{lanes-of}

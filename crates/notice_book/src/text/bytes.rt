@@ -21,7 +21,7 @@ fn byte_of(word: u32, k: usize) -> u8
 }
 
 // The bytes of the text words.
-pub fn unpack(words: &[u32]) -> [u8; TEXT_BYTES]
+pub(crate) fn unpack(words: &[u32]) -> [u8; TEXT_BYTES]
     requires { ⌜ length (now words) ≡ 16 ⌝ }
     ensures { λ r. ⌜ r ≡ bytes-of (now (words .entry)) ⌝ }
 {
@@ -33,7 +33,7 @@ pub fn unpack(words: &[u32]) -> [u8; TEXT_BYTES]
 }
 
 // The word of four bytes from a place on.
-pub fn word_at(bytes: &[u8], at: usize) -> u32
+pub(crate) fn word_at(bytes: &[u8], at: usize) -> u32
     requires { ⌜ at + 3 < length (now bytes) ⌝ }
     ensures { λ r. ⌜ r ≡ word-of (getD (now (bytes .entry)) at 0) (getD (now (bytes .entry)) (at + 1) 0) (getD (now (bytes .entry)) (at + 2) 0) (getD (now (bytes .entry)) (at + 3) 0) ⌝ }
 {
@@ -41,14 +41,14 @@ pub fn word_at(bytes: &[u8], at: usize) -> u32
 }
 
 // Whether a text may have a byte.
-pub fn is_printable(byte: u8) -> bool
+pub(crate) fn is_printable(byte: u8) -> bool
     ensures { λ r. ⌜ r ≡ printable byte ⌝ }
 {
     byte >= FIRST_PRINTABLE && byte <= LAST_PRINTABLE
 }
 
 // Whether the bytes before a length are printable, and the others 0.
-pub fn is_text(bytes: &[u8], size: usize) -> bool
+pub(crate) fn is_text(bytes: &[u8], size: usize) -> bool
     ensures { λ r. ⌜ r ≡ (every printable (take size (now (bytes .entry))) && every blank (drop size (now (bytes .entry)))) ⌝ }
 {
     for (k, byte) in bytes.iter().enumerate() {

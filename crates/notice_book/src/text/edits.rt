@@ -32,7 +32,7 @@ fn take_out(bytes: &mut [u8], place: usize, end: usize)
 
 impl Text {
     // The text with a byte put in; the bytes from the place on move up by one.
-    pub fn insert(self, place: usize, byte: u8) -> Result<Text, Fault>
+    pub(crate) fn insert(self, place: usize, byte: u8) -> Result<Text, Fault>
         ensures { λ r. ⌜ lettered r ≡ edit (letters self) (Insert place byte) ⌝ }
     {
         if self.size == TEXT_BYTES {
@@ -51,7 +51,7 @@ impl Text {
     }
 
     // The text with a byte taken out; the bytes after the place move down by one.
-    pub fn delete(self, place: usize) -> Result<Text, Fault>
+    pub(crate) fn delete(self, place: usize) -> Result<Text, Fault>
         ensures { λ r. ⌜ lettered r ≡ edit (letters self) (Delete place) ⌝ }
     {
         if place >= self.size {

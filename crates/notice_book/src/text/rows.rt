@@ -16,7 +16,7 @@ use crate::text::bytes::word_at;
 
 impl Text {
     // The text of a lawful row, and none of another.
-    pub fn read(row: &[u32]) -> Option<Text>
+    pub(crate) fn read(row: &[u32]) -> Option<Text>
         ensures { λ r. ⌜ Cases r (notice-lawful (now (row .entry)) ≡ false) (λ t. (notice-lawful (now (row .entry)) ≡ true) × (letters t ≡ text (now (row .entry)))) ⌝ }
     {
         let [size, words @ ..] = row else {
@@ -34,7 +34,7 @@ impl Text {
     }
 
     // The row of the text.
-    pub fn store(&self, row: &mut [u32])
+    pub(crate) fn store(&self, row: &mut [u32])
         requires { ⌜ length (now row) ≡ 17 ⌝ }
         ensures { λ _. ⌜ now (row .exit) ≡ row-of (letters (now (self .entry))) ⌝ }
     {

@@ -14,7 +14,7 @@ held : (c : After-take-out) → Held (c .args .self .size) (c .args .self .bytes
 held c = record { short = c .args .self .short; long = c .args .self .long; rest = c .args .self .rest }
 
 made : (c : After-take-out) → Held (c .args .self .size - 1) (c .take-out .last .bytes) × (take (c .args .self .size - 1) (c .take-out .last .bytes) ≡ removed (take (c .args .self .size) (c .args .self .bytes)) (c .args .place))
-made c = rw (c .take-out .ensures) (held-removed (held c) (c .args .place) (c .if-place-self .left))
+made c = rw (c .take-out .ensures) (held-removed (held c) (c .args .place) (omega arith))
 
 pub ghost-result : need.ghost-result
 ghost-result c = let h = made (need.at·ghost-result c .After-take-out) .0 in (h .short, (h .long, (h .rest, tt)))

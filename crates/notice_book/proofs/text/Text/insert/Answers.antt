@@ -14,7 +14,7 @@ held : (c : After-put-in) → Held (c .args .self .size) (c .args .self .bytes)
 held c = record { short = c .args .self .short; long = c .args .self .long; rest = c .args .self .rest }
 
 made : (c : After-put-in) → Held (c .args .self .size + 1) (c .put-in .last .bytes) × (take (c .args .self .size + 1) (c .put-in .last .bytes) ≡ inserted (take (c .args .self .size) (c .args .self .bytes)) (c .args .place) (c .args .byte))
-made c = rw (c .put-in .ensures) (held-inserted (held c) (c .args .place) (c .args .byte) (c .if-place-self .left) (c .if-self-eq-TEXT-BYTES .left))
+made c = rw (c .put-in .ensures) (held-inserted (held c) (c .args .place) (c .args .byte) (omega arith) (omega arith))
 
 pub ghost-result : need.ghost-result
 ghost-result c = let h = made (need.at·ghost-result c .After-put-in) .0 in (h .short, (h .long, (h .rest, tt)))
