@@ -19,5 +19,6 @@ pub mod Deliveries
 pub mod Runs
 pub mod Waiting
 pub mod Law
+pub mod Mask
 pub mod Reaches
 pub mod Example

@@ -4,3 +4,4 @@ pub mod Runs
 pub mod Clauses
 pub mod Facts
 pub mod Example
+pub mod Mask

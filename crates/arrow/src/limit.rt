@@ -4,6 +4,7 @@ ghost use mathlib.Core.Path.{_≡_};
 ghost use Rattle.arrow.specs.Clauses.{Law-over-runs};
 ghost use Rattle.arrow.specs.Example.{Worked-run};
 ghost use Rattle.arrow.specs.Facts.{Facts-of-runs, Refusals-are-listed};
+ghost use Rattle.arrow.specs.Mask.{Word-of-waiting};
 ghost use Rattle.arrow.specs.Rules.{request-limit};
 
 // The number of requests after which a group refuses the next. With it no count of a run comes to the end of its 32 bits.
@@ -15,6 +16,7 @@ pub fn request_limit() -> u32
     ensures law { λ _. ⌜ Law-over-runs ⌝ }
     ensures facts { λ _. ⌜ Facts-of-runs ⌝ }
     ensures refusals { λ _. ⌜ Refusals-are-listed ⌝ }
+    ensures waiting { λ _. ⌜ Word-of-waiting ⌝ }
     ensures example { λ _. ⌜ Worked-run ⌝ }
 {
     REQUEST_LIMIT
