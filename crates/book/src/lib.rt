@@ -1,5 +1,7 @@
 // Kinds of book: what a kind is, code that serves every kind, and the ledger.
 // Assumes nothing.
+#![tactic(auto)]
+
 pub mod fault;
 pub mod kind;
 pub mod ledger;

@@ -1,5 +1,7 @@
 // Carriers: what brings parcels from panel to panel, on lanes.
 // Assumes nothing.
+#![tactic(auto)]
+
 mod lanes;
 pub mod line;
 pub mod loopback;

@@ -1,5 +1,7 @@
 // The arrow directory: who asks for the book, where each request stands, and which way each panel's arrow points.
 // The definitions are in specs/ and their laws in proofs/; the one function here names the laws. Assumes nothing.
+#![tactic(auto)]
+
 ghost use Rattle.std.specs.Prelude.{◌≡◌, ◌==◌};
 ghost use Rattle.directory.specs.Example.{WorkedExample};
 ghost use Rattle.directory.specs.Law.{DirectoryLaw, EveryRequestServed};

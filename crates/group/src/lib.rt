@@ -1,5 +1,7 @@
 // A lift group: its panels share one book over any carrier and any kind of book. Nothing here allocates.
 // Assumes nothing.
+#![tactic(auto)]
+
 mod asking;
 mod delivering;
 mod holding;

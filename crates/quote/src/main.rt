@@ -1,5 +1,7 @@
 // Reads riser layouts from standard input, one to a line, and prints the cable steps between all pairs of panels.
 // Assumes nothing: what is printed for a text is `layout::quote::quote_all`, which is proved.
+#![tactic(auto)]
+
 use layout::quote::quote_all;
 use std::io::Read;
 

@@ -1,5 +1,7 @@
 // The words of the shared book: refusals with their numbers, message words and event words.
 // Assumes nothing.
+#![tactic(auto)]
+
 pub mod event;
 pub mod fields;
 pub mod message;

@@ -7,4 +7,4 @@ use Rattle.words.proofs.event.decoded.Goals as goal
 pub returns-in-len1-up : goal.returns-in-len1-up
 returns-in-len1-up c =
     let some : 0 < length c.args.words.now = search rules in
-    read_by_front c.args.words.now _ _ some (take_rest c.args.words.now 1) c.of-words.ensures
+    read_by_front c.args.words.now _ _ some (take_rest c.args.words.now 1) c.of_words.ensures

@@ -6,4 +6,4 @@ use Rattle.words.proofs.event.of_words.Goals as goal
 pub returns : goal.returns
 returns c =
     read_by_parts c.args.first _ _ _ _ _ _ c.split-kind.ensures.kind c.split-kind.ensures.a
-    c.split-kind.ensures.b c.split-kind.ensures.c (λ e. omega arith) (omega arith) c.of-fields.ensures
+    c.split-kind.ensures.b c.split-kind.ensures.c (λ e. omega arith) (omega arith) c.of_fields.ensures
