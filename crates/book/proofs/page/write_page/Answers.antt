@@ -16,7 +16,7 @@ returns-in-err-opening g c =
 
 pub loop-entry-init : goal.loop-entry-init
 loop-entry-init g c =
-    page_none (g.K.Kind.book c.args.kind.now) (g.met.K.Kind.sound c.args.kind.now) c.args.space.now c.opening.new.space c.width-width.result c.width-width.ensures c.in-ok-opening.ensures
+    page_none (g.K.Kind.book c.args.kind.now) (g.met.K.Kind.sound c.args.kind.now) c.args.space.now c.opening.new.space c.width-width.result c.width-width.ensures c.in_ok-opening.ensures
 
 pub loop-entry-preserved : goal.loop-entry-preserved
 loop-entry-preserved g c =
@@ -28,6 +28,6 @@ loop-entry-preserved g c =
 pub returns : goal.returns
 returns g c = record {
   answer = page_all (g.K.Kind.book c.args.kind.now) (g.met.K.Kind.sound c.args.kind.now) c.args.entries.now c.args.space.now c.opening.new.space c.loop-entry.space
-      c.loop-entry.entry-index c.width-width.result c.width-width.ensures c.loop-entry-test.false c.in-ok-opening.ensures c.loop-entry.invariant;
+      c.loop-entry.entry-index c.width-width.result c.width-width.ensures c.loop-entry-test.false c.in_ok-opening.ensures c.loop-entry.invariant;
   lawful = page_lawful (g.K.Kind.book c.args.kind.now) (g.met.K.Kind.sound c.args.kind.now) c.args.entries.now;
 }
