@@ -15,5 +15,5 @@ returns-in-err-packet c =
 
 pub returns : goal.returns
 returns c =
-    let made = c.in-ok-packet.ensures in
+    let made = c.in_ok-packet.ensures in
     post_by_push c.args.queues.now c.args.lane c.index-queues-lane.result c.push.new.self c.args.head c.args.body.now _ c.push.result c.if-lane-queues.false made.0 made.1 c.push.ensures

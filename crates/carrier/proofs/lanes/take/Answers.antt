@@ -12,4 +12,4 @@ returns-then-space-lt-ENOUGH-SPACE c = (grind (arith, nat_tests, lanes_length c.
 
 pub returns : goal.returns
 returns c =
-    take_by_pull c.args.queues.now c.args.lane c.index-queues-lane.result c.pull.new.self (place_of c.args.end) c.args.space.now c.pull.result c.pull.new.space c.if-lane-queues.false c.if-space-lt-ENOUGH-SPACE.false c.pull.ensures
+    take_by_pull c.args.queues.now c.args.lane c.index-queues-lane.result c.pull.new.self (place_of c.args.end) c.args.space.now c.pull.result c.pull.new.space c.if-lane-queues.false c.if-space-lt-ENOUGH_SPACE.false c.pull.ensures

@@ -16,6 +16,6 @@ returns-in-err-take-packet-2 g c =
 
 pub returns : goal.returns
 returns g c =
-    let told = c.in-ok-post-both.ensures in
-    let back = emptied_again (g.C.Carrier.lanes c.args.carrier.now) c.args.lane (parcel_of c.args.first.now) (parcel_of c.args.second.now) (g.C.Carrier.lanes c.post-both.new.carrier) told.0 told.1 (g.C.Carrier.lanes c.take-packet.new.carrier) (g.C.Carrier.lanes c.take-packet-2.new.carrier) (g.C.Carrier.lanes c.take-packet-3.new.carrier) c.in-ok-take-packet.field-0 c.in-ok-take-packet-2.field-0 c.take-packet-3.result c.in-ok-take-packet.ensures c.in-ok-take-packet-2.ensures c.take-packet-3.ensures in
+    let told = c.in_ok-post_both.ensures in
+    let back = emptied_again (g.C.Carrier.lanes c.args.carrier.now) c.args.lane (parcel_of c.args.first.now) (parcel_of c.args.second.now) (g.C.Carrier.lanes c.post_both.new.carrier) told.0 told.1 (g.C.Carrier.lanes c.take_packet.new.carrier) (g.C.Carrier.lanes c.take-packet-2.new.carrier) (g.C.Carrier.lanes c.take-packet-3.new.carrier) c.in-ok-take-packet.field-0 c.in-ok-take-packet-2.field-0 c.take-packet-3.result c.in-ok-take-packet.ensures c.in-ok-take-packet-2.ensures c.take-packet-3.ensures in
     (told.0, back.0, back.1, back.2)

@@ -4,8 +4,8 @@ use Rattle.carrier.proofs.loopback.take_packet.Goals as goal
 
 pub returns : goal.returns
 returns g c =
-    let told = c.in-ok-received.ensures in
+    let told = c.in_ok-received.ensures in
     let place = told.0 in
     let gave = told.1.1 in
     let parcel = at_place (waiting (g.C.Carrier.lanes c.args.carrier.now) c.args.lane) place in
-    (told.1.0, (place, gave.within, read_back parcel c.in-ok-received.received.head c.in-ok-received.received.size _ c.take.new.space gave.head_is gave.size-is gave.space_is, told.1.2))
+    (told.1.0, (place, gave.within, read_back parcel c.in_ok-received.received.head c.in_ok-received.received.size _ c.take.new.space gave.head_is gave.size_is gave.space_is, told.1.2))

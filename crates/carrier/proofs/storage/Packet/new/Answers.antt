@@ -7,4 +7,4 @@ pub invariant-of-result : goal.invariant-of-result
 invariant-of-result c = (omega arith, (search (rules, places), tt))
 
 pub returns : goal.returns
-returns c = (omega arith, let with : _ = λ b. record { head = c.args.head; body = b } in ap with (take_at _ _ _ (ap length c.copy-from-slice.ensures.after) ∙ c.copy-from-slice.ensures.after))
+returns c = (omega arith, let with : _ = λ b. record { head = c.args.head; body = b } in ap with (take_at _ _ _ (ap length c.copy_from_slice.ensures.after) ∙ c.copy_from_slice.ensures.after))

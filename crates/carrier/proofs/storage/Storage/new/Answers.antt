@@ -6,5 +6,5 @@ use Rattle.carrier.proofs.storage.Storage.new.Goals as goal
 
 pub returns : goal.returns
 returns c =
-    let few = c.if-lanes-gt-MOST-LANES.false in
+    let few = c.if-lanes-gt-MOST_LANES.false in
     (grind (arith, nat_tests), none_in c.empty.result c.args.lanes most_lanes c.empty.ensures few)

@@ -8,7 +8,7 @@ use Rattle.tree.proofs.cables.Tree.distance.Goals as goal
 use Rattle.tree.proofs.cables.Tree.distance.Goals.{then-left-right, else-left-right}
 
 pub returns-then-a-panels : goal.returns-then-a-panels
-returns-then-a-panels c = record { answer = search rules; measures = distance_law; only-path = only_path_law }
+returns-then-a-panels c = record { answer = search rules; measures = distance_law; only_path = only_path_law }
 
 climbed :
     (c : goal.Joined-left-right)
@@ -31,4 +31,4 @@ pub returns : goal.returns
 returns c =
     let all : c.loop-left.cables ≡ distance (parents c.args.self.now) c.args.a c.args.b
     = omega (arith, distance_from_equal (parents c.args.self.now) c.args.self.now.lawful c.loop-left.left c.loop-left.right) in
-    record { answer = search rules; measures = distance_law; only-path = only_path_law }
+    record { answer = search rules; measures = distance_law; only_path = only_path_law }
