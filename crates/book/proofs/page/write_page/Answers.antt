@@ -6,11 +6,11 @@ use Rattle.book.proofs.Answered.{Says}
 use Rattle.book.proofs.Pages.{page_all, page_lawful, page_more, page_none, page_refused}
 use Rattle.book.proofs.page.write_page.Goals as goal
 
-pub returns-in-err-opening : goal.returns-in-err-opening
-returns-in-err-opening g c =
-    let p = err_from_is_err_and c.from-residual.result c.from-residual.ensures.1 in
+pub returns-in_err-opening : goal.returns-in_err-opening
+returns-in_err-opening g c =
+    let p = err_from_is_err_and c.from_residual.result c.from_residual.ensures.1 in
     record {
-      answer = rw (p.1, p.2) (page_refused (g.K.Kind.book c.args.kind.now) c.args.entries.now c.args.space.now c.opening.new.space c.in-err-opening.field-0.0 c.in-err-opening.ensures);
+      answer = rw (p.1, p.2) (page_refused (g.K.Kind.book c.args.kind.now) c.args.entries.now c.args.space.now c.opening.new.space c.in_err-opening.field-0.0 c.in_err-opening.ensures);
       lawful = page_lawful (g.K.Kind.book c.args.kind.now) (g.met.K.Kind.sound c.args.kind.now) c.args.entries.now;
     }
 

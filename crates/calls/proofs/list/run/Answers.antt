@@ -11,8 +11,8 @@ loop-call-init g c = record { history = []; made = tt; run = c.new-group.ensures
 
 pub loop-call-preserved : goal.loop-call-preserved
 loop-call-preserved g c =
-    reached_more c.args.calls.now c.loop-call.call-index _ c.loop-call.spare c.carry-out.new.spare _ _ _ c.loop-call-test.true c.carry-out.auto.spare
-    c.carry-out.ensures.goes c.loop-call.invariant
+    reached_more c.args.calls.now c.loop-call.call-index _ c.loop-call.spare c.carry_out.new.spare _ _ _ c.loop-call-test.true c.carry_out.auto.spare
+    c.carry_out.ensures.goes c.loop-call.invariant
 
 pub returns : goal.returns
 returns g c =

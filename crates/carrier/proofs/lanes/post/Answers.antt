@@ -7,10 +7,10 @@ use Rattle.carrier.proofs.lanes.post.Goals as goal
 pub returns-then-lane-queues : goal.returns-then-lane-queues
 returns-then-lane-queues c = (grind (arith, nat_tests, lanes_length c.args.queues.now c.args.lane), refl)
 
-pub returns-in-err-packet : goal.returns-in-err-packet
-returns-in-err-packet c =
-    let p = err_from_is_err_and c.from-residual.result c.from-residual.ensures.1 in
-    let told = c.in-err-packet.ensures in
+pub returns-in_err-packet : goal.returns-in_err-packet
+returns-in_err-packet c =
+    let p = err_from_is_err_and c.from_residual.result c.from_residual.ensures.1 in
+    let told = c.in_err-packet.ensures in
     rw (p.1, p.2) (grind (arith, nat_tests, told, lanes_length c.args.queues.now c.args.lane), refl)
 
 pub returns : goal.returns

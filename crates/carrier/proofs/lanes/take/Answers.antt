@@ -7,8 +7,8 @@ use Rattle.carrier.proofs.lanes.take.Goals as goal
 pub returns-then-lane-queues : goal.returns-then-lane-queues
 returns-then-lane-queues c = (grind (arith, nat_tests, lanes_length c.args.queues.now c.args.lane), refl, refl)
 
-pub returns-then-space-lt-ENOUGH-SPACE : goal.returns-then-space-lt-ENOUGH-SPACE
-returns-then-space-lt-ENOUGH-SPACE c = (grind (arith, nat_tests, lanes_length c.args.queues.now c.args.lane), refl, refl)
+pub returns-then-space-lt-ENOUGH_SPACE : goal.returns-then-space-lt-ENOUGH_SPACE
+returns-then-space-lt-ENOUGH_SPACE c = (grind (arith, nat_tests, lanes_length c.args.queues.now c.args.lane), refl, refl)
 
 pub returns : goal.returns
 returns c =

@@ -14,9 +14,9 @@ pub loop-rest-preserved-then-end-rest : goal.loop-rest-preserved-then-end-rest
 loop-rest-preserved-then-end-rest c = (
   simp (length-take, length-drop) (omega arith),
   rw take_rest
-      (quoted_more (quoted_text c.args.text.now) (string_bytes c.loop-rest.out) (string_bytes c.write-quote.new.out)
-      c.loop-rest.rest.now c.loop-rest.invariant.1 c.first-place-end.result (simp sub-zero at c.in-Ok.ensures)
-      c.first-place-end.ensures.before c.if-end-rest.true (c.first-place-end.ensures.found c.if-end-rest.true)),
+      (quoted_more (quoted_text c.args.text.now) (string_bytes c.loop-rest.out) (string_bytes c.write_quote.new.out)
+      c.loop-rest.rest.now c.loop-rest.invariant.1 c.first_place-end.result (simp sub-zero at c.in-Ok.ensures)
+      c.first_place-end.ensures.before c.if-end-rest.true (c.first_place-end.ensures.found c.if-end-rest.true)),
 )
 
 pub loop-rest-preserved : goal.loop-rest-preserved
@@ -24,9 +24,9 @@ loop-rest-preserved c =
     let some : 0 < length c.loop-rest.rest.now = search rules in (
       simp (length-take, length-drop) (omega arith),
       rw take_rest
-          (quoted_last (quoted_text c.args.text.now) (string_bytes c.loop-rest.out) (string_bytes c.write-quote.new.out)
-          c.loop-rest.rest.now c.loop-rest.invariant.1 c.first-place-end.result (simp sub-zero at c.in-Ok.ensures)
-          c.first-place-end.ensures.before some c.if-end-rest.false c.first-place-end.ensures.within),
+          (quoted_last (quoted_text c.args.text.now) (string_bytes c.loop-rest.out) (string_bytes c.write_quote.new.out)
+          c.loop-rest.rest.now c.loop-rest.invariant.1 c.first_place-end.result (simp sub-zero at c.in-Ok.ensures)
+          c.first_place-end.ensures.before some c.if-end-rest.false c.first_place-end.ensures.within),
     )
 
 pub returns : goal.returns

@@ -6,9 +6,9 @@ use Rattle.layout.proofs.table.write_row.Goals as goal
 pub returns : goal.returns
 returns c =
     let start = string_bytes c.args.out.now in
-    let numbered = appended start (string_bytes c.write-two-places.new.out) (string_bytes c.write.new.self) _ (58 ∷ [])
-    c.in-ok-write-two-places.ensures c.in-ok-write.ensures.bytes in
-    let filled = appended start (string_bytes c.write.new.self) (string_bytes c.write-cells.new.out) _ _
-    numbered c.in-ok-write-cells.ensures in
-    made_after c.writeln.result start (string_bytes c.write-cells.new.out) (string_bytes c.writeln.new.self) _ (10 ∷ []) _
+    let numbered = appended start (string_bytes c.write_two_places.new.out) (string_bytes c.write.new.self) _ (58 ∷ [])
+    c.in_ok-write_two_places.ensures c.in_ok-write.ensures.bytes in
+    let filled = appended start (string_bytes c.write.new.self) (string_bytes c.write_cells.new.out) _ _
+    numbered c.in_ok-write_cells.ensures in
+    made_after c.writeln.result start (string_bytes c.write_cells.new.out) (string_bytes c.writeln.new.self) _ (10 ∷ []) _
     filled c.writeln.ensures.bytes (simp append_assoc)

@@ -7,4 +7,4 @@ use Rattle.layout.proofs.table.write_rows.Goals as goal
 pub loop-a-preserved : goal.loop-a-preserved
 loop-a-preserved c =
     texts_more (row (parents c.args.tree.now)) c.loop-a.a (string_bytes c.args.out.now) (string_bytes c.loop-a.out)
-    (string_bytes c.write-row.new.out) c.loop-a.invariant c.in-ok-write-row.ensures
+    (string_bytes c.write_row.new.out) c.loop-a.invariant c.in_ok-write_row.ensures

@@ -5,5 +5,5 @@ use Rattle.layout.proofs.table.write_table.Goals as goal
 
 pub returns : goal.returns
 returns c =
-    made_after c.write-rows.result (string_bytes c.args.out.now) (string_bytes c.write-heading.new.out)
-    (string_bytes c.write-rows.new.out) _ _ _ c.in-ok-write-heading.ensures c.write-rows.ensures refl
+    made_after c.write_rows.result (string_bytes c.args.out.now) (string_bytes c.write_heading.new.out)
+    (string_bytes c.write_rows.new.out) _ _ _ c.in_ok-write_heading.ensures c.write_rows.ensures refl

@@ -3,8 +3,8 @@ use Rattle.std.proofs.lemmas.List.{places, take_at}
 use Rattle.carrier.specs.Parcels.{Parcel}
 use Rattle.carrier.proofs.storage.Packet.new.Goals as goal
 
-pub invariant-of-result : goal.invariant-of-result
-invariant-of-result c = (omega arith, (search (rules, places), tt))
+pub invariant_of-result : goal.invariant_of-result
+invariant_of-result c = (omega arith, (search (rules, places), tt))
 
 pub returns : goal.returns
 returns c = (omega arith, let with : _ = λ b. record { head = c.args.head; body = b } in ap with (take_at _ _ _ (ap length c.copy_from_slice.ensures.after) ∙ c.copy_from_slice.ensures.after))

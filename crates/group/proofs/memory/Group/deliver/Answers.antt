@@ -3,14 +3,14 @@ use Rattle.group.specs.Whole.{whole}
 use Rattle.group.proofs.Steps.{arrived_so}
 use Rattle.group.proofs.memory.Group.deliver.Goals as goal
 
-pub returns-in-err-received : goal.returns-in-err-received
-returns-in-err-received g c =
-    let took = c.in-err-received.ensures.1 in
+pub returns-in_err-received : goal.returns-in_err-received
+returns-in_err-received g c =
+    let took = c.in_err-received.ensures.1 in
     record { place = 0; waits = λ some. some; by_rule = search rules; spare_is = search rules }
 
 pub returns : goal.returns
 returns g c =
     let w = whole g.C.Carrier.lanes g.K.Kind.book c.args.self.now in
-    let took = c.in-ok-received.ensures in
-    let done = arrived_so w c.args.lane c.args.spare.now c.take.new.space took.0 _ _ _ _ c.in-ok-from.ensures took.1 c.arrive.ensures in
+    let took = c.in_ok-received.ensures in
+    let done = arrived_so w c.args.lane c.args.spare.now c.take.new.space took.0 _ _ _ _ c.in_ok-from.ensures took.1 c.arrive.ensures in
     record { place = took.0; waits = λ _. took.1.1.within; by_rule = done.0; spare_is = done.1 }

@@ -19,6 +19,6 @@ returns g c =
     let ps = parents c.args.tree in
     let some = some_panel ps (parents_lawful c.args.tree) in
     ap (world_with w.kind ps w.counts w.lanes)
-    (stored_at (length ps) c.idle-panels-panels.result 0 _ (lt-leb (length ps) 0 some)
-    ∙ ap (λ (l : List Panel). set l 0 (record { arrow = 0; state = Resting; follower = None; row = row_words c.args.row })) c.idle-panels-panels.ensures.front
+    (stored_at (length ps) c.idle_panels-panels.result 0 _ (lt-leb (length ps) 0 some)
+    ∙ ap (λ (l : List Panel). set l 0 (record { arrow = 0; state = Resting; follower = None; row = row_words c.args.row })) c.idle_panels-panels.ensures.front
     ∙ opening_is w ps (row_words c.args.row) (row_words c.cleared-zeros.result) some c.requires (c.cleared-zeros.ensures ∙ ap (λ n. replicate n 0) (ap length c.requires ∙ sound.long book.opening sound.opens)))

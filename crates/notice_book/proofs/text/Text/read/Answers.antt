@@ -5,20 +5,20 @@ use Rattle.notice_book.specs.Packing.{length_bytes}
 use Rattle.notice_book.specs.Rows.{clean_held, row_lawful, row_text}
 use Rattle.notice_book.specs.Clean.{clean}
 use Rattle.notice_book.proofs.text.Text.read.Goals as goal
-use Rattle.notice_book.proofs.text.Text.read.Goals.{After-is-text}
+use Rattle.notice_book.proofs.text.Text.read.Goals.{After-is_text}
 
 -- the row is lawful when its bytes are clean
-decided : (c : After-is-text) → notice_lawful c.args.row.now ≡ clean (get_or c.args.row.now 0 0) c.unpack-bytes.result
+decided : (c : After-is_text) → notice_lawful c.args.row.now ≡ clean (get_or c.args.row.now 0 0) c.unpack-bytes.result
 decided c = row_lawful c.args.row.now c.unpack-bytes.result (omega arith) (omega arith) (omega arith) c.unpack-bytes.ensures
 
-pub returns-then-not-is-text : goal.returns-then-not-is-text
-returns-then-not-is-text c = decided (goal.at.returns-then-not-is-text c).After-is-text ∙ sym c.if-not-is-text.ensures
+pub returns-then-not-is_text : goal.returns-then-not-is_text
+returns-then-not-is_text c = decided (goal.at.returns-then-not-is_text c).After-is_text ∙ sym c.if-not-is_text.ensures
 
-pub invariant-of-result : goal.invariant-of-result
-invariant-of-result c =
+pub invariant_of-result : goal.invariant_of-result
+invariant_of-result c =
     let long : length c.unpack-bytes.result ≡ 64 = ap length c.unpack-bytes.ensures ∙ length_bytes _ ∙ omega arith in
-    let h = clean_held (get_or c.args.row.now 0 0) c.unpack-bytes.result (omega arith) long (sym c.if-not-is-text.ensures) in
+    let h = clean_held (get_or c.args.row.now 0 0) c.unpack-bytes.result (omega arith) long (sym c.if-not-is_text.ensures) in
     (h.short, (h.long, (h.rest, tt)))
 
 pub returns : goal.returns
-returns c = (decided (goal.at.returns c).After-is-text ∙ sym c.if-not-is-text.ensures, row_text c.args.row.now c.unpack-bytes.result (omega arith) c.unpack-bytes.ensures)
+returns c = (decided (goal.at.returns c).After-is_text ∙ sym c.if-not-is_text.ensures, row_text c.args.row.now c.unpack-bytes.result (omega arith) c.unpack-bytes.ensures)

@@ -14,7 +14,7 @@ loop-k-preserved c =
     let full : length bytes ≡ 64 = c.args.self.now.long in
     let within : k + 1 < length row = omega (arith, length-set c.args.row.now 0 c.args.self.now.size) in
     let zeroth : 0 ≢ k + 1 = omega arith in
-    let word : c.word-at.result ≡ get_or (words_of bytes) k 0 = c.word-at.ensures ∙ sym (words_at bytes k (omega arith)) in (
+    let word : c.word_at.result ≡ get_or (words_of bytes) k 0 = c.word_at.ensures ∙ sym (words_at bytes k (omega arith)) in (
       get_or-set_other row (k + 1) 0 _ 0 zeroth ∙ c.loop-k.invariant.0,
       below_more _ _
           (λ j h. let other : j + 1 ≢ k + 1 = omega arith in get_or-set_other row (k + 1) (j + 1) _ 0 other ∙ c.loop-k.invariant.1 j h)

@@ -10,7 +10,7 @@ here : (c : Joined-k-size) → clean c.args.size c.args.bytes.now ≡ (c.if-k-si
 here c =
     let fits : c.if-k-size.lawful ≡ fits_at c.args.size c.loop-k.k (get_or c.args.bytes.now c.loop-k.k 0) =
     elim c.if-k-size.branch [
-      | then-k-size w ↦ w.lawful-is ∙ w.is-printable-lawful.ensures ∙ cond_below c.loop-k.k c.args.size _ _ w.if-k-size.true
+      | then-k-size w ↦ w.lawful-is ∙ w.is_printable-lawful.ensures ∙ cond_below c.loop-k.k c.args.size _ _ w.if-k-size.true
       | else-k-size w ↦ cond_above c.loop-k.k c.args.size _ _ _ w.if-k-size.false w.lawful-is
     ]
     in

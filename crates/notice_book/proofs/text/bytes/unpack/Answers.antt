@@ -12,7 +12,7 @@ loop-k-preserved c =
     let k = c.loop-k.k in
     let within : k < 4 * length ws = omega arith in
     let inside : k < length c.loop-k.bytes = omega arith in
-    let byte : c.byte-of.result ≡ get_or (bytes_of ws) k 0 = c.byte-of.ensures ∙ sym (bytes_at ws k within) in
+    let byte : c.byte_of.result ≡ get_or (bytes_of ws) k 0 = c.byte_of.ensures ∙ sym (bytes_at ws k within) in
     (simp length-set c.loop-k.invariant.0, λ j h. rw byte (fill_by_more (λ j. get_or (bytes_of ws) j 0) c.loop-k.bytes k 0 inside c.loop-k.invariant.1 j h))
 
 pub returns : goal.returns

@@ -2,8 +2,8 @@ use Rattle.std.proofs.Common.{length, ap, ◌∙◌, arith, rules}
 use Rattle.std.proofs.lemmas.List.{places, take_at}
 use Rattle.panel.proofs.row.Row.of.Goals as goal
 
-pub invariant-of-result : goal.invariant-of-result
-invariant-of-result c = (omega arith, (search (rules, places), tt))
+pub invariant_of-result : goal.invariant_of-result
+invariant_of-result c = (omega arith, (search (rules, places), tt))
 
 pub returns : goal.returns
-returns c = (search rules, take_at _ _ _ (ap length c.copy-from-slice.ensures.after) ∙ c.copy-from-slice.ensures.after)
+returns c = (search rules, take_at _ _ _ (ap length c.copy_from_slice.ensures.after) ∙ c.copy_from_slice.ensures.after)

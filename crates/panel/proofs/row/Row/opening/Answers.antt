@@ -10,5 +10,5 @@ returns g c =
     let sound = g.met.K.Kind.sound c.args.kind.now in
     let left = c.opening.new.space in
     let width = c.width.result in
-    ap (take width) (page_none book sound (replicate longest_body 0) left width c.width.ensures c.in-ok-opening.ensures)
+    ap (take width) (page_none book sound (replicate longest_body 0) left width c.width.ensures c.in_ok-opening.ensures)
     ∙ take_at book.opening (drop width left) width (sound.long book.opening sound.opens ∙ sym c.width.ensures)

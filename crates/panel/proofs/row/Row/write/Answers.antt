@@ -3,8 +3,8 @@ use Rattle.std.proofs.lemmas.List.{places}
 use Rattle.std.proofs.lemmas.Slice.{overwrites}
 use Rattle.panel.proofs.row.Row.write.Goals as goal
 
-pub invariant-of-self : goal.invariant-of-self
-invariant-of-self g c = (omega arith, (search (rules, places), tt))
+pub invariant_of-self : goal.invariant_of-self
+invariant_of-self g c = (omega arith, (search (rules, places), tt))
 
 pub returns : goal.returns
 returns g c = search (rules, overwrites)

@@ -5,8 +5,8 @@ use Rattle.std.proofs.lemmas.Bool.Decides.{nat_tests}
 use Rattle.tree.proofs.Lawful.{lawful_made, unlawful_made}
 use Rattle.tree.proofs.cables.making.is_lawful.Goals as goal
 
-pub returns-then-is-empty : goal.returns-then-is-empty
-returns-then-is-empty c = record { answer = unlawful_made _ (λ facts. grind (arith, nat_tests)); few = λ e. absurd (false≢true e) }
+pub returns-then-is_empty : goal.returns-then-is_empty
+returns-then-is_empty c = record { answer = unlawful_made _ (λ facts. grind (arith, nat_tests)); few = λ e. absurd (false≢true e) }
 
 pub returns-then-list-ne0 : goal.returns-then-list-ne0
 returns-then-list-ne0 c = record { answer = unlawful_made _ (λ facts. omega arith); few = λ e. absurd (false≢true e) }
