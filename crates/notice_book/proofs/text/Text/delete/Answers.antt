@@ -13,7 +13,7 @@ made : (c : After-take_out) → Held (c.args.self.size - 1) c.take_out.new.bytes
 made c = rw c.take_out.ensures (held_removed (held c) c.args.place (omega arith))
 
 pub invariant_of-result : goal.invariant_of-result
-invariant_of-result c = let h = (made (goal.at.invariant_of-result c).After-take_out).0 in (h.short, (h.long, (h.rest, tt)))
+invariant_of-result c = let h = (made (goal.at.invariant_of-result c).After-take_out).0 in record { short = h.short; long = h.long; rest = h.rest }
 
 pub returns : goal.returns
 returns c =

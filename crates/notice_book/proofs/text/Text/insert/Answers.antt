@@ -13,7 +13,7 @@ made : (c : After-put_in) → Held (c.args.self.size + 1) c.put_in.new.bytes × 
 made c = rw c.put_in.ensures (held_inserted (held c) c.args.place c.args.byte (omega arith) (omega arith))
 
 pub invariant_of-result : goal.invariant_of-result
-invariant_of-result c = let h = (made (goal.at.invariant_of-result c).After-put_in).0 in (h.short, (h.long, (h.rest, tt)))
+invariant_of-result c = let h = (made (goal.at.invariant_of-result c).After-put_in).0 in record { short = h.short; long = h.long; rest = h.rest }
 
 pub returns : goal.returns
 returns c =

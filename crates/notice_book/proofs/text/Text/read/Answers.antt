@@ -18,7 +18,7 @@ pub invariant_of-result : goal.invariant_of-result
 invariant_of-result c =
     let long : length c.unpack-bytes.result ≡ 64 = ap length c.unpack-bytes.ensures ∙ length_bytes _ ∙ omega arith in
     let h = clean_held (get_or c.args.row.now 0 0) c.unpack-bytes.result (omega arith) long (sym c.if-not-is_text.ensures) in
-    (h.short, (h.long, (h.rest, tt)))
+    record { short = h.short; long = h.long; rest = h.rest }
 
 pub returns : goal.returns
 returns c = (decided (goal.at.returns c).After-is_text ∙ sym c.if-not-is_text.ensures, row_text c.args.row.now c.unpack-bytes.result (omega arith) c.unpack-bytes.ensures)

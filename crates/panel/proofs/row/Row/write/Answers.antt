@@ -4,7 +4,7 @@ use Rattle.std.proofs.lemmas.Slice.{overwrites}
 use Rattle.panel.proofs.row.Row.write.Goals as goal
 
 pub invariant_of-self : goal.invariant_of-self
-invariant_of-self g c = (omega arith, (search (rules, places), tt))
+invariant_of-self g c = record { fits = omega arith; long = search (rules, places) }
 
 pub returns : goal.returns
 returns g c = search (rules, overwrites)
