@@ -1,5 +1,5 @@
 -- The book under way: it moves on by a first step, and it comes to the panel that it is for. Assumes nothing.
-use Rattle.std.proofs.Common.{◌≡◌, ℕ, ◌+◌, ◌<◌, true, List, [], ◌∷◌, ◌++◌, length, Some, None, sym, refl, ap, ◌∙◌, subst, arith}
+use Rattle.std.proofs.Common.{◌≡◌, ℕ, ◌<◌, true, List, [], ◌∷◌, ◌++◌, length, Some, None, sym, refl, ap, ◌∙◌, subst, arith}
 use Rattle.book.specs.Kinds.{Book}
 use Rattle.carrier.specs.Parcels.{Parcel}
 use Rattle.directory.specs.Directory.{Place, idle, flying, after, front, Becomes}

@@ -6,7 +6,7 @@ use Rattle.std.proofs.lemmas.Nat.{shr-shr}
 use Rattle.arrow.specs.declared.state.State.{State}
 use Rattle.arrow.specs.declared.state.State.TheVariants.{Idle, Waiting, Holding, Resting}
 use Rattle.arrow.specs.World.{Panel}
-use Rattle.arrow.specs.Mask.{waiting_bit, waiting_word, how_many_wait, state_of, SaysWhoWaits, WordOfWaiting}
+use Rattle.arrow.specs.Mask.{waiting_bit, waiting_word, how_many_wait, state_of, WordOfWaiting}
 
 -- a bit is 0 or 1
 pub bit_small : (s : State) → waiting_bit s ≤ 1

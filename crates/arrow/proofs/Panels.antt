@@ -1,5 +1,5 @@
 -- What the places of the requests say of the panels' states, and changes of one panel that leave the directory. Assumes nothing.
-use Rattle.std.proofs.Common.{◌≡◌, ℕ, ◌<◌, true, false, List, length, Some, None, Option, sym, refl, ap, ◌∙◌, subst, arith}
+use Rattle.std.proofs.Common.{◌≡◌, ℕ, ◌<◌, true, List, length, Some, None, Option, sym, refl, ap, ◌∙◌, subst, arith}
 use Rattle.std.proofs.lemmas.Bool.{false≢true}
 use Rattle.book.specs.Kinds.{Book}
 use Rattle.directory.specs.Directory.{Directory, Place, idle, flying, after, front, Becomes}

@@ -1,5 +1,5 @@
 -- Steps of writing a table: one number more, one text after another. Assumes nothing.
-use Rattle.std.proofs.Common.{◌≡◌, ℕ, zero, suc, ◌+◌, max, List, [], ◌∷◌, ◌++◌, IfOk, Ok, Err, Result, sym, refl, ap, ◌∙◌, add-zero, add-suc, suc-add, zero-add, add-one}
+use Rattle.std.proofs.Common.{◌≡◌, ℕ, zero, suc, ◌+◌, max, List, ◌++◌, IfOk, Ok, Err, Result, sym, ap, ◌∙◌, add-zero, add-suc, suc-add, zero-add, add-one}
 use Rattle.std.proofs.lemmas.List.{append_assoc, append-nil}
 use Rattle.layout.specs.Tables.{greatest, texts}
 

@@ -7,7 +7,6 @@ use crate::fault::Fault;
 use crate::read::parents;
 use crate::table::{write_refused, write_table};
 use std::alloc::{AllocError, Global};
-use std::fmt;
 use text::cut::first_place;
 use tree::Tree;
 
@@ -19,10 +18,8 @@ pub fn quote(heap: Global, line: &[u8]) -> Result<String, AllocError>
     ensures { IfOk result (λ text. string_bytes text ≡ quoted line.now) }
 {
     let mut out = String::new(heap);
-    match write_quote(heap, &mut out, line) {
-        Ok(()) => Ok(out),
-        Err(_) => Err(AllocError),
-    }
+    write_quote(heap, &mut out, line)?;
+    Ok(out)
 }
 
 // What is printed for a whole text, line by line.
@@ -33,9 +30,7 @@ pub fn quote_all(heap: Global, text: &[u8]) -> Result<String, AllocError>
     let mut rest = text;
     while !rest.is_empty() {
         let end = first_place(LINE_END, rest);
-        let Ok(()) = write_quote(heap, &mut out, &rest[0..end]) else {
-            return Err(AllocError);
-        };
+        write_quote(heap, &mut out, &rest[0..end])?;
         rest = if end < rest.len() {
             &rest[end + 1..]
         } else {
@@ -46,7 +41,7 @@ pub fn quote_all(heap: Global, text: &[u8]) -> Result<String, AllocError>
 }
 
 // The table of the layout in a line, or a refusal.
-fn write_quote(heap: Global, out: &mut String, line: &[u8]) -> fmt::Result
+fn write_quote(heap: Global, out: &mut String, line: &[u8]) -> Result<(), AllocError>
     ensures { OnOk result (string_bytes out.new ≡ string_bytes out.old ++ quoted line.now) }
 {
     match parents(heap, line) {
@@ -55,6 +50,6 @@ fn write_quote(heap: Global, out: &mut String, line: &[u8]) -> fmt::Result
             Err(refusal) => write_refused(out, refusal),
         },
         Err(Fault::Refused(refusal)) => write_refused(out, refusal),
-        Err(Fault::NoMemory) => Err(fmt::Error),
+        Err(Fault::NoMemory) => Err(AllocError),
     }
 }

@@ -5,13 +5,13 @@ ghost use Rattle.layout.specs.Tables.{two_places, farthest_from, farthest, headi
 ghost use Rattle.tree.specs.Answers.{parents};
 ghost use Rattle.tree.specs.Tree.{distance};
 
-use std::fmt;
+use std::alloc::AllocError;
 use std::fmt::Write;
 use tree::Tree;
 use words::refusal::Refusal;
 
 // A number in at least two places.
-fn write_two_places(out: &mut String, number: usize) -> fmt::Result
+fn write_two_places(out: &mut String, number: usize) -> Result<(), AllocError>
     ensures { OnOk result (string_bytes out.new ≡ string_bytes out.old ++ two_places number) }
 {
     if number < 10 {
@@ -56,7 +56,7 @@ fn farthest(tree: &Tree) -> usize
 }
 
 // The heading of a table.
-fn write_heading(out: &mut String, tree: &Tree) -> fmt::Result
+fn write_heading(out: &mut String, tree: &Tree) -> Result<(), AllocError>
     ensures { OnOk result (string_bytes out.new ≡ string_bytes out.old ++ heading (parents tree.now)) }
 {
     let panels = tree.panels();
@@ -65,7 +65,7 @@ fn write_heading(out: &mut String, tree: &Tree) -> fmt::Result
 }
 
 // The distance of two panels, behind a space.
-fn write_cell(out: &mut String, tree: &Tree, a: usize, b: usize) -> fmt::Result
+fn write_cell(out: &mut String, tree: &Tree, a: usize, b: usize) -> Result<(), AllocError>
     requires { (a < length (parents tree.now)) × (b < length (parents tree.now)) }
     ensures { OnOk result (string_bytes out.new ≡ string_bytes out.old ++ cell (parents tree.now) a b) }
 {
@@ -74,7 +74,7 @@ fn write_cell(out: &mut String, tree: &Tree, a: usize, b: usize) -> fmt::Result
 }
 
 // The distances from a panel to all panels.
-fn write_cells(out: &mut String, tree: &Tree, a: usize) -> fmt::Result
+fn write_cells(out: &mut String, tree: &Tree, a: usize) -> Result<(), AllocError>
     requires { a < length (parents tree.now) }
     ensures { OnOk result (string_bytes out.new ≡ string_bytes out.old ++ texts (cell (parents tree.now) a) 0 (length (parents tree.now))) }
 {
@@ -85,7 +85,7 @@ fn write_cells(out: &mut String, tree: &Tree, a: usize) -> fmt::Result
 }
 
 // The row of a panel.
-fn write_row(out: &mut String, tree: &Tree, a: usize) -> fmt::Result
+fn write_row(out: &mut String, tree: &Tree, a: usize) -> Result<(), AllocError>
     requires { a < length (parents tree.now) }
     ensures { OnOk result (string_bytes out.new ≡ string_bytes out.old ++ row (parents tree.now) a) }
 {
@@ -96,7 +96,7 @@ fn write_row(out: &mut String, tree: &Tree, a: usize) -> fmt::Result
 }
 
 // The rows of all panels.
-fn write_rows(out: &mut String, tree: &Tree) -> fmt::Result
+fn write_rows(out: &mut String, tree: &Tree) -> Result<(), AllocError>
     ensures { OnOk result (string_bytes out.new ≡ string_bytes out.old ++ texts (row (parents tree.now)) 0 (length (parents tree.now))) }
 {
     for a in 0..tree.panels() {
@@ -106,7 +106,7 @@ fn write_rows(out: &mut String, tree: &Tree) -> fmt::Result
 }
 
 // The whole table of a tree.
-pub(crate) fn write_table(out: &mut String, tree: &Tree) -> fmt::Result
+pub(crate) fn write_table(out: &mut String, tree: &Tree) -> Result<(), AllocError>
     ensures { OnOk result (string_bytes out.new ≡ string_bytes out.old ++ table (parents tree.now)) }
 {
     write_heading(out, tree)?;
@@ -114,7 +114,7 @@ pub(crate) fn write_table(out: &mut String, tree: &Tree) -> fmt::Result
 }
 
 // A refusal, by its number.
-pub(crate) fn write_refused(out: &mut String, refusal: Refusal) -> fmt::Result
+pub(crate) fn write_refused(out: &mut String, refusal: Refusal) -> Result<(), AllocError>
     ensures { OnOk result (string_bytes out.new ≡ string_bytes out.old ++ refused_line refusal) }
 {
     let number = refusal.number();

@@ -7,15 +7,15 @@ use Rattle.layout.specs.Tables.{quoted_text}
 use Rattle.layout.proofs.Quoting.{quoted_more, quoted_last, quoted_done}
 use Rattle.layout.proofs.quote.quote_all.Goals as goal
 
-pub overflow-add-rest : goal.overflow-add-rest
-overflow-add-rest c = omega arith
+pub overflow_add-rest : goal.overflow_add-rest
+overflow_add-rest c = omega arith
 
 pub loop-rest-preserved-then-end-rest : goal.loop-rest-preserved-then-end-rest
 loop-rest-preserved-then-end-rest c = (
   simp (length-take, length-drop) (omega arith),
   rw take_rest
       (quoted_more (quoted_text c.args.text.now) (string_bytes c.loop-rest.out) (string_bytes c.write_quote.new.out)
-      c.loop-rest.rest.now c.loop-rest.invariant.1 c.first_place-end.result (simp sub-zero at c.in-Ok.ensures)
+      c.loop-rest.rest.now c.loop-rest.invariant.1 c.first_place-end.result (simp sub-zero at c.in_ok-write_quote.ensures)
       c.first_place-end.ensures.before c.if-end-rest.true (c.first_place-end.ensures.found c.if-end-rest.true)),
 )
 
@@ -25,7 +25,7 @@ loop-rest-preserved c =
       simp (length-take, length-drop) (omega arith),
       rw take_rest
           (quoted_last (quoted_text c.args.text.now) (string_bytes c.loop-rest.out) (string_bytes c.write_quote.new.out)
-          c.loop-rest.rest.now c.loop-rest.invariant.1 c.first_place-end.result (simp sub-zero at c.in-Ok.ensures)
+          c.loop-rest.rest.now c.loop-rest.invariant.1 c.first_place-end.result (simp sub-zero at c.in_ok-write_quote.ensures)
           c.first_place-end.ensures.before some c.if-end-rest.false c.first_place-end.ensures.within),
     )
 
