@@ -38,7 +38,7 @@ fn line_keeps_order(rt: HostRuntime) -> Result<(), Fail> {
         line.take_oldest(1, &mut space)?,
         Received { head: 7, size: 2 }
     );
-    assert_eq!(rt; &space[0..3], &[70, 71, 5]);
+    assert_eq!(rt; &space[0..3], [70, 71, 5].as_slice());
     assert_eq!(rt; taken(&mut line, 1), Ok(8));
     assert_eq!(rt; taken(&mut line, 1), Err(Refusal::LaneEmpty));
     Ok(())
