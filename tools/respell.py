@@ -4,7 +4,7 @@
 usage: python3 tools/respell.py            in the repository's root, once, after port.py: rewrites the files in place
        python3 tools/respell.py --list     prints what it would rename, and which names would fall together
 
-A fact or a type, which begins with a capital, goes to camel case (One-book: OneBook); every other name goes to snake case (first-step:
+A fact or a type, which begins with a capital, goes to camel case (One-book and One_book: OneBook); every other name goes to snake case (first-step:
 first_step). Names that Rattle makes (goals, steps, loops) and names of the library keep their dashes. Functions of src/, strings and
 comments stay; in README.md and docs/ a name is respelled where it stands between backquotes.
 """
@@ -14,7 +14,7 @@ import os
 import re
 import sys
 
-TOKEN = re.compile(r"(?<![\w'-])[A-Za-zℕℤ][\w']*(?:-[A-Za-z0-9_][\w']*)+(?![\w'-])")
+TOKEN = re.compile(r"(?<![\w'-])(?:[A-Za-zℕℤ][\w']*(?:-[A-Za-z0-9_][\w']*)+|[A-Z][a-z]+(?:_[a-z]+)+)(?![\w'-])")
 DECLARES = re.compile(r"\s*(?:pub |abbrev |unfoldable |data |record |opaque )*([^\s:{}()]+)\s*(?:\{[^}]*\}\s*|\([^)]*\)\s*)*:\s")
 LIBRARY = re.compile(r"(?:ghost )?use (?:Rattle\.std|borrow|lib|native|Prim|mathlib)[\w.]*\.\{(.*)\}")
 ANSWERS = re.compile(r"/(?:Answers|Invariants|Choices|Proof)\.antt$")
@@ -39,7 +39,7 @@ def sources():
 
 
 def respelled(name):
-    parts = name.split("-")
+    parts = re.split("[-_]" if name[0].isupper() else "-", name)
     if name[0].isupper():
         return "".join(p[0].upper() + p[1:] for p in parts)
     return "_".join(parts)
@@ -53,7 +53,7 @@ def names():
         for line in lines(path):
             line, _ = code(line, "--")
             declared = DECLARES.match(line)
-            if declared and "-" in declared.group(1) and not (answers and re.search(r":\s*goal\.", line)):
+            if declared and TOKEN.fullmatch(declared.group(1)) and not (answers and re.search(r":\s*goal\.", line)):
                 own.add(declared.group(1))
             brought = LIBRARY.match(line)
             if brought:
@@ -63,7 +63,7 @@ def names():
             brought = LIBRARY.match(line)
             if brought:
                 library |= {x.strip() for x in brought.group(1).split(",")}
-    # in files of lemmas and definitions every dashed name is the repository's own, or the library's
+    # in files of lemmas and definitions every such name is the repository's own, or the library's
     for path in proofs_and_specs():
         if not ANSWERS.search(path):
             for line in lines(path):

@@ -16,7 +16,7 @@ use Rattle.arrow.specs.declared.state.State.TheVariants.{Idle, Waiting, Holding,
 use Rattle.arrow.specs.World.{World, panel_at}
 use Rattle.arrow.specs.Rules.{has_book, parcel_at}
 use Rattle.arrow.specs.Runs.{Call, Entry, CarriedOut, then}
-use Rattle.arrow.specs.Clauses.{ExactlyWhen, Waits, NoFindWaits, NoParcelWaits, NoPanelHolds, landed_distances, accepted_writes, MakesOf, Spot, at_panel, in_parcel, HasBook, OneBook, Clauses, LawOverRuns, Goes_on}
+use Rattle.arrow.specs.Clauses.{ExactlyWhen, Waits, NoFindWaits, NoParcelWaits, NoPanelHolds, landed_distances, accepted_writes, MakesOf, Spot, at_panel, in_parcel, HasBook, OneBook, Clauses, LawOverRuns, GoesOn}
 use Rattle.arrow.proofs.Arrangement.{one_book_place}
 use Rattle.arrow.proofs.Answering.{few_named}
 use Rattle.arrow.proofs.Changes.{total_zero, zero_total}
@@ -203,6 +203,6 @@ law_over_runs history w run = elim (run_reaches run) [
 ]
 
 -- a call that is carried out goes on from every run
-pub goes_on : (w : World) (call : Call) (answer : Result Event Refusal) (w' : World) → CarriedOut w call answer w' → Goes_on w call answer w'
+pub goes_on : (w : World) (call : Call) (answer : Result Event Refusal) (w' : World) → CarriedOut w call answer w' → GoesOn w call answer w'
 goes_on w call answer w' carried history run =
     let run' = then run call answer w' carried in (run', law_over_runs _ w' run')

@@ -117,7 +117,7 @@ abbrev pub LawOverRuns : Type 0
 LawOverRuns = (history : List Entry) (w : World) → Run history w → Clauses history w
 
 -- a call, so answered, goes on from every run that leads to the first world: the longer run leads to the second, and the clauses hold of it
-abbrev pub Goes_on : World → Call → Result Event Refusal → World → Type 0
-Goes_on w call answer w' =
+abbrev pub GoesOn : World → Call → Result Event Refusal → World → Type 0
+GoesOn w call answer w' =
     (history : List Entry) → Run history w
     → Run (history ++ record { call = call; answer = answer } ∷ []) w' × Clauses (history ++ record { call = call; answer = answer } ∷ []) w'

@@ -4,7 +4,7 @@ use Rattle.std.proofs.lemmas.List.{take_more}
 use Rattle.words.specs.declared.event.Event.{Event}
 use Rattle.words.specs.declared.refusal.Refusal.{Refusal}
 use Rattle.arrow.specs.World.{World}
-use Rattle.arrow.specs.Clauses.{Goes_on}
+use Rattle.arrow.specs.Clauses.{GoesOn}
 use Rattle.arrow.specs.Runs.{Entry}
 use Rattle.calls.specs.Called.{call_of, MadeOf, ReachedBy}
 use Rattle.calls.specs.declared.call.Call.{Call}
@@ -20,7 +20,7 @@ made_more size (c ∷ calls) (e ∷ history) call entry spare long is made =
 
 -- the run of the first calls, with the next one added
 pub reached_more : (calls : List Call) (i : ℕ) (d : Call) (spare spare' : List ℕ) (r : Result Event Refusal) (w w' : World)
-    → i < length calls → length spare' ≡ length spare → Goes_on w (call_of (get_or calls i d) spare) r w'
+    → i < length calls → length spare' ≡ length spare → GoesOn w (call_of (get_or calls i d) spare) r w'
     → ReachedBy (length spare) (take i calls) w → ReachedBy (length spare') (take (i + 1) calls) w'
 reached_more calls i d spare spare' r w w' within long goes so =
     let next = goes so.history so.run in

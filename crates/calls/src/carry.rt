@@ -1,6 +1,6 @@
 // Any call on a group, and the law over every run.
 // Assumes nothing.
-ghost use Rattle.arrow.specs.Clauses.{Goes_on};
+ghost use Rattle.arrow.specs.Clauses.{GoesOn};
 ghost use Rattle.calls.specs.Called.{Performed, PerformedOldest, call_of, oldest_call_of};
 ghost use Rattle.group.specs.Whole.{whole};
 
@@ -36,7 +36,7 @@ pub fn carry_out<C: Carrier, K: Kind>(
     spare: &mut [u32],
 ) -> Result<Event, Refusal>
     ensures performed { Performed (whole C.Carrier.lanes K.Kind.book group.old) call.entry spare.old result (whole C.Carrier.lanes K.Kind.book group.new) spare.new }
-    ensures goes { Goes_on (whole C.Carrier.lanes K.Kind.book group.old) (call_of call.entry spare.old) result (whole C.Carrier.lanes K.Kind.book group.new) }
+    ensures goes { GoesOn (whole C.Carrier.lanes K.Kind.book group.old) (call_of call.entry spare.old) result (whole C.Carrier.lanes K.Kind.book group.new) }
 {
     perform(group, call, spare)
 }
@@ -62,7 +62,7 @@ pub fn carry_out_oldest<C: OldestFirst, K: Kind>(
     spare: &mut [u32],
 ) -> Result<Event, Refusal>
     ensures performed { PerformedOldest (whole C.Carrier.lanes K.Kind.book group.old) call.entry spare.old result (whole C.Carrier.lanes K.Kind.book group.new) spare.new }
-    ensures goes { Goes_on (whole C.Carrier.lanes K.Kind.book group.old) (oldest_call_of call.entry spare.old) result (whole C.Carrier.lanes K.Kind.book group.new) }
+    ensures goes { GoesOn (whole C.Carrier.lanes K.Kind.book group.old) (oldest_call_of call.entry spare.old) result (whole C.Carrier.lanes K.Kind.book group.new) }
 {
     perform_oldest(group, call, spare)
 }

@@ -1,7 +1,7 @@
 -- The weights of all requests, added up: every move but a request lowers the sum, so that it bounds how many such moves can
 -- follow each other. Assumes nothing.
 use Rattle.std.proofs.Common.{◌≡◌, ℕ, ◌+◌, ◌*◌, ◌<◌, ◌≤◌, List, length, sym, refl, ap, subst, arith}
-use Rattle.std.specs.List.{AllByRecursion as All}
+use Rattle.std.specs.List.{AllByRecursion}
 use Rattle.directory.specs.Cables.{Wired}
 use Rattle.directory.specs.Directory.{Directory, Place, idle, flying, after, front, Becomes, Move, request, pass, land, hand_on, Does, Run, empty, more, Tree}
 use Rattle.directory.specs.Law.{Serves, Within}
@@ -59,7 +59,7 @@ module _ {parent : ℕ → ℕ} (tree : Tree parent) (n : ℕ) where
   serving (hand_on v f) _ = tt
 
   -- a list of moves without a request is no longer than the total weight
-  pub run_serves : {rs : List Move} {d e : Directory} → Sound d → Wired n (Joined parent n) d → All Serves rs → Run rs d e → length rs + total_weight n e ≤ total_weight n d
+  pub run_serves : {rs : List Move} {d e : Directory} → Sound d → Wired n (Joined parent n) d → AllByRecursion Serves rs → Run rs d e → length rs + total_weight n e ≤ total_weight n d
   run_serves s wired all empty = omega arith
   run_serves s wired all (more {m = m} {d = d} {e = e} does run) =
       omega (

@@ -1,7 +1,7 @@
 -- The cables of a tree of n panels, each of which joins a panel and its parent, and that every run of the n panels keeps to
 -- them. Assumes nothing.
 use Rattle.std.proofs.Common.{◌≡◌, ℕ, ◌<◌, ◌⊎◌, List, refl, inl, inr, arith}
-use Rattle.std.specs.List.{AllByRecursion as All}
+use Rattle.std.specs.List.{AllByRecursion}
 use Rattle.directory.specs.Cables.{Cabling, Wired}
 use Rattle.directory.specs.Directory.{Directory, Move, request, pass, land, hand_on, Does, Run, empty, more, Tree, Opening}
 use Rattle.directory.specs.Law.{Within}
@@ -31,6 +31,6 @@ module _ {parent : ℕ → ℕ} (n : ℕ) where
   move_wired (land a w u) s wired _ m = land_wired (tree_cabling parent n) wired m
   move_wired (hand_on v f) s wired _ m = hand_on_wired (tree_cabling parent n) wired m
 
-  pub run_wired : {ms : List Move} {d e : Directory} → Sound d → Wired n (Joined parent n) d → All (Within n) ms → Run ms d e → Wired n (Joined parent n) e
+  pub run_wired : {ms : List Move} {d e : Directory} → Sound d → Wired n (Joined parent n) d → AllByRecursion (Within n) ms → Run ms d e → Wired n (Joined parent n) e
   run_wired s wired all empty = wired
   run_wired s wired all (more {m = m} does run) = run_wired (move_sound m s does) (move_wired m s wired all.0 does) all.1 run

@@ -1,6 +1,6 @@
 -- The laws of the arrow directory, over every list of moves. Assumes nothing.
 use Rattle.std.specs.Prelude.{◌≡◌, ℕ, ◌*◌, ◌<◌, ◌≤◌, List, length}
-use Rattle.std.specs.List.{AllByRecursion as All}
+use Rattle.std.specs.List.{AllByRecursion}
 use Rattle.directory.specs.Directory.{Directory, idle, flying, after, front, Move, request, pass, land, hand_on, Does, Run, Tree, Opening}
 use Rattle.directory.specs.Queue.{Sound}
 
@@ -42,12 +42,12 @@ Within n (land a w u) = Unit {0}
 Within n (hand_on v f) = Unit {0}
 
 -- some move other than a request can be made
-abbrev pub Goes_on : Directory → Type 0
-Goes_on d = (m : Move) × (e : Directory) × Serves m × Does m d e
+abbrev pub GoesOn : Directory → Type 0
+GoesOn d = (m : Move) × (e : Directory) × Serves m × Does m d e
 
 -- every request is served: after any list of moves of n panels, at most n * (2 * n) moves can be made before the next request, and
 -- as long as some panel waits, one more can be made
 abbrev pub EveryRequestServed : Type 0
 EveryRequestServed = (parent : ℕ → ℕ) → Tree parent → (n : ℕ) → 0 < n
-    → (ms rs : List Move) (d e f : Directory) → Opening parent d → Run ms d e → All (Within n) ms → Run rs e f → All Serves rs
-    → (length rs ≤ n * (2 * n)) × ((a : ℕ) → ¬ (f.place a ≡ idle) → ¬ (f.place a ≡ front) → Goes_on f)
+    → (ms rs : List Move) (d e f : Directory) → Opening parent d → Run ms d e → AllByRecursion (Within n) ms → Run rs e f → AllByRecursion Serves rs
+    → (length rs ≤ n * (2 * n)) × ((a : ℕ) → ¬ (f.place a ≡ idle) → ¬ (f.place a ≡ front) → GoesOn f)

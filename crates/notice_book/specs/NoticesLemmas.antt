@@ -1,7 +1,7 @@
 -- Rows and texts are one, and the notice's rule keeps rows lawful. Assumes nothing.
 use Rattle.std.specs.Prelude.{◌≡◌, ℕ, zero, suc, ◌-◌, ◌<◌, ◌≤◌, Bool, true, List, [], ◌∷◌, ◌++◌, length, take, drop, replicate, Ok, Err, Result, ◌==◌, nat_le, nat_lt, slice_index, refl}
 use Rattle.std.proofs.Common.{sym, ap, subst, ◌∙◌, arith, lit≤, length-append, length-drop, drop-cons}
-use Rattle.std.specs.List.{AllByRecursion as All}
+use Rattle.std.specs.List.{AllByRecursion}
 use Rattle.std.proofs.ByRecursion.{All-append}
 use Rattle.std.proofs.lemmas.List.{drop_at, length-take-le, take-append-drop, take_at, length-replicate}
 use Rattle.std.proofs.lemmas.Bool.{and_from, and_parts, cond_both, eq-eqb, eqb-false, eqb-true, le-leb, leb-true, ltb-false, ltb-true}
@@ -39,14 +39,14 @@ blanks : (n : ℕ) → every blank (replicate n 0) ≡ true
 blanks zero = refl
 blanks (suc n) = blanks n
 
-small_text : (t : List ℕ) → every printable t ≡ true → All (λ b. b < 256) t
+small_text : (t : List ℕ) → every printable t ≡ true → AllByRecursion (λ b. b < 256) t
 small_text [] h = tt
 small_text (b ∷ t) h =
     let p = and_parts (printable b) (every printable t) h in
     let q = and_parts (nat_le 32 b) (nat_le b 126) p.0 in
     (omega (arith, leb-true b 126 q.1), small_text t p.1)
 
-small_zeros : (n : ℕ) → All (λ b. b < 256) (replicate n 0)
+small_zeros : (n : ℕ) → AllByRecursion (λ b. b < 256) (replicate n 0)
 small_zeros zero = tt
 small_zeros (suc n) = (omega arith, small_zeros n)
 

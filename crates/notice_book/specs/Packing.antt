@@ -1,7 +1,7 @@
 -- Bytes into words and back. Assumes nothing.
 use Rattle.std.specs.Prelude.{◌≡◌, ℕ, zero, suc, ◌+◌, ◌*◌, ◌/◌, ◌%◌, ◌^◌, ◌<◌, List, [], ◌∷◌, length, slice_index, refl}
 use Rattle.std.proofs.Common.{sym, ◌∙◌, arith}
-use Rattle.std.specs.List.{AllByRecursion as All}
+use Rattle.std.specs.List.{AllByRecursion}
 use Rattle.notice_book.specs.Bytes.{bytes_of, four_bytes, word_of, words_of}
 
 pub length_bytes : (ws : List ℕ) → length (bytes_of ws) ≡ 4 * length ws
@@ -48,7 +48,7 @@ words_bytes (w ∷ ws) =
     λ i. same i ∷ words_bytes ws i
 
 -- the bytes of the words of bytes, if they fill their words, are these bytes
-pub bytes_words : (bs : List ℕ) → length bs % 4 ≡ 0 → All (λ b. b < 256) bs → bytes_of (words_of bs) ≡ bs
+pub bytes_words : (bs : List ℕ) → length bs % 4 ≡ 0 → AllByRecursion (λ b. b < 256) bs → bytes_of (words_of bs) ≡ bs
 bytes_words [] h all = refl
 bytes_words (a ∷ []) h all = absurd (omega arith)
 bytes_words (a ∷ b ∷ []) h all = absurd (omega arith)
