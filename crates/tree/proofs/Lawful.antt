@@ -1,4 +1,4 @@
--- What `lawful-tree` says, as facts on places, both ways. Assumes nothing.
+-- What `lawful_tree` says, as facts on places, both ways. Assumes nothing.
 use Rattle.std.proofs.Common.{◌≡◌, ℕ, zero, suc, ◌+◌, ◌<◌, ◌≤◌, true, false, ◌&&◌, eqb, ltb, leb, List, [], ◌∷◌, length, get_or, sym, refl, inl, inr, arith}
 use Rattle.std.proofs.lemmas.List.{get_or_past}
 use Rattle.std.proofs.lemmas.Bool.{and_parts, and_from, cases_Bool, cases_lt, ltb-true, lt-ltb, leb-true, le-leb, eqb-true, eq-eqb, true≢false}

@@ -1,5 +1,5 @@
 -- The cable tree of a lift group, as its list of parents: entry v is the parent of panel v.
--- Assumes nothing. Every definition is for any list and any numbers; `lawful-tree` says which lists are trees.
+-- Assumes nothing. Every definition is for any list and any numbers; `lawful_tree` says which lists are trees.
 use Rattle.std.specs.Prelude.{ℕ, zero, suc, ◌+◌, ◌-◌, ◌*◌, ◌/◌, ◌%◌, Bool, true, false, cond, ◌&&◌, ◌||◌, List, [], ◌∷◌, length, ◌==◌, nat_le, nat_lt, slice_index}
 use Prim.Native.Nat.{Ordering}
 use Prim.Native.Nat.{compare}
