@@ -1,5 +1,5 @@
 -- One call more of a list that is carried out, and the spare words it is lent. Assumes nothing.
-use Rattle.std.proofs.Common.{◌≡◌, ℕ, ◌+◌, ◌<◌, List, [], ◌∷◌, ◌++◌, length, get_or, take, Result, sym, refl, ap, ◌∙◌, subst}
+use Rattle.std.proofs.Common.{◌≡◌, ℕ, ◌+◌, ◌<◌, List, [], ◌∷◌, ◌++◌, length, get_or, take, Result, sym, refl, subst}
 use Rattle.std.proofs.lemmas.List.{take_more}
 use Rattle.words.specs.declared.event.Event.{Event}
 use Rattle.words.specs.declared.refusal.Refusal.{Refusal}

@@ -1,7 +1,5 @@
 -- Calls as values: what each answers and leaves by the rules, and the runs that lists of them make. Assumes nothing.
 use Rattle.std.specs.Prelude.{◌≡◌, ℕ, List, [], ◌∷◌, length, Result}
-use Rattle.book.specs.Kinds.{Book}
-use Rattle.carrier.specs.Parcels.{Lanes}
 use Rattle.words.specs.declared.event.Event.{Event}
 use Rattle.words.specs.declared.refusal.Refusal.{Refusal}
 use Rattle.arrow.specs.World.{World}

@@ -1,8 +1,8 @@
 -- A panel's step and what it leaves to do are the rule of the delivery; the ends of a lane; a taken parcel. Assumes nothing.
-use Rattle.std.proofs.Common.{◌≡◌, ℕ, ◌<◌, ◌≤◌, Bool, true, false, cond, not, eqb, ltb, leb, List, [], length, take, drop, Some, None, Ok, Err, Option, Result, sym, refl, ap, ◌∙◌, subst}
+use Rattle.std.proofs.Common.{◌≡◌, ℕ, Bool, true, false, cond, not, eqb, ltb, leb, List, length, take, drop, Some, None, Ok, Err, Option, Result, sym, refl, ap, ◌∙◌, subst}
 use Rattle.std.proofs.lemmas.List.{take_at}
 use Rattle.std.proofs.lemmas.Bool.{ltb-true, ltb-false, lt-leb, le-leb}
-use Rattle.carrier.specs.Parcels.{Lanes, Gave, TakenAt, waiting, at_place, take_refusal, taken, laid}
+use Rattle.carrier.specs.Parcels.{Lanes, Gave, TakenAt, waiting, take_refusal, taken, laid}
 use Rattle.carrier.specs.declared.traits.Received.{Received}
 use Rattle.tree.specs.Tree.{lawful_tree, lane_count, lane_source, lane_target}
 use Rattle.tree.specs.Answers.{parents, ends_answer, first_step_answer}
@@ -19,9 +19,9 @@ use Rattle.arrow.specs.declared.state.State.TheVariants.{Idle, Waiting, Holding,
 use Rattle.arrow.specs.World.{Panel, World, is_open, panel_at}
 use Rattle.arrow.specs.Rules.{Outcome, refuse, with_part, with_lanes, with_panel, with_counts, count_book, send, turned, hand_over, lands, passes_on, gets_book, moves_on, meets, by_rest, followed, deliver_call, deliver_refusal, delivers, by_refusal, spare_after, parcel_at, about, with_row}
 use Rattle.panel.specs.declared.action.Action.{Action}
-use Rattle.panel.specs.declared.action.Action.TheVariants.{Pass, Keep, HandOver, Hold, MoveOn}
+use Rattle.panel.specs.declared.action.Action.TheVariants.{Pass, Hold, MoveOn}
 use Rattle.panel.specs.Steps.{left_empty, landing, plain_step}
-use Rattle.group.specs.Parts.{handed, by_action, EndsTold, Arrived, Delivered, DeliveredOldest}
+use Rattle.group.specs.Parts.{by_action, EndsTold, Arrived}
 
 module _ (w : World) (from u : ℕ) (body : List ℕ) where
   sent : (a : ℕ) (s : Result Lanes Refusal)

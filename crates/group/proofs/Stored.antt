@@ -1,5 +1,5 @@
 -- The panels in memory, read and written at a place. Assumes nothing.
-use Rattle.std.proofs.Common.{◌≡◌, ℕ, ◌<◌, ◌≤◌, true, false, ltb, leb, List, map, length, get_or, take, set, Some, None, Option, sym, refl, ap, ◌∙◌, arith}
+use Rattle.std.proofs.Common.{◌≡◌, ℕ, ◌<◌, ◌≤◌, true, false, ltb, leb, List, map, length, get_or, take, set, Some, None, Option, sym, ap, ◌∙◌, arith}
 use lib.Seq.{take-set-lt}
 use Rattle.std.proofs.lemmas.List.{get_or-map, get_or-take, map-set, length-take-le}
 use Rattle.std.proofs.lemmas.Bool.{leb-false}

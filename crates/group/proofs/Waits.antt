@@ -1,12 +1,11 @@
 -- The word of waiting panels, one panel more. Assumes nothing.
-use Rattle.std.proofs.Common.{◌≡◌, ℕ, ◌+◌, ◌*◌, ◌%◌, ◌^◌, ◌<◌, ◌≤◌, false, leb, List, [], ◌∷◌, ◌++◌, length, get_or, take, sym, refl, ap, ◌∙◌, mul_assoc, pow-suc, arith}
+use Rattle.std.proofs.Common.{◌≡◌, ℕ, ◌+◌, ◌*◌, ◌%◌, ◌^◌, ◌<◌, ◌≤◌, List, [], ◌∷◌, ◌++◌, length, get_or, take, sym, ap, ◌∙◌, mul_assoc, pow-suc, arith}
 use lib.Bits.{bit_or}
 use Rattle.std.proofs.lemmas.Nat.{or_comm, or_shifted, shl_whole}
 use Rattle.std.proofs.lemmas.List.{length-map, length-take-le, take_more}
 use Rattle.std.proofs.lemmas.Bool.{lt-leb}
 use Rattle.arrow.specs.Mask.{waiting_bit, waiting_word}
 use Rattle.arrow.specs.World.{Panel}
-use Rattle.arrow.specs.declared.state.State.{State}
 use Rattle.arrow.proofs.Mask.{bit_small, word_of_waiting}
 use Rattle.panel.specs.declared.record.Panel.{Panel as PanelRecord}
 use Rattle.panel.specs.Steps.{panel_of}

@@ -1,17 +1,15 @@
 -- What the parts that the calls are made of answer and leave, over the world of the group. Assumes nothing.
-use Rattle.std.specs.Prelude.{◌≡◌, ℕ, ◌<◌, true, false, cond, not, List, [], length, take, Some, None, Ok, Err, Result, nat_le}
+use Rattle.std.specs.Prelude.{◌≡◌, ℕ, true, false, List, [], length, take, Some, None, Ok, Err, Result, nat_le}
 use Rattle.carrier.specs.Parcels.{Lanes}
 use Rattle.tree.specs.declared.cables.Tree.{Tree}
 use Rattle.tree.specs.Answers.{parents}
 use Rattle.words.specs.declared.message.Message.{Message}
 use Rattle.words.specs.declared.refusal.Refusal.{Refusal}
 use Rattle.words.specs.declared.refusal.Refusal.TheVariants.{NotOpen}
-use Rattle.words.specs.declared.event.Event.{Event}
 use Rattle.words.specs.declared.event.Event.TheVariants.{Granted, Passed, Landed}
 use Rattle.words.specs.declared.message.Message.TheVariants.{Find, Book}
 use Rattle.tree.specs.Answers.{first_step_answer}
-use Rattle.arrow.specs.declared.state.State.{State}
-use Rattle.arrow.specs.declared.state.State.TheVariants.{Idle, Waiting, Holding, Resting}
+use Rattle.arrow.specs.declared.state.State.TheVariants.{Idle}
 use Rattle.carrier.specs.declared.traits.Received.{Received}
 use Rattle.tree.specs.Tree.{lane_count, lane_source, lane_target}
 use Rattle.words.specs.Messages.{message_of}
@@ -19,7 +17,7 @@ use Rattle.arrow.specs.Runs.{WaitsAt}
 use Rattle.panel.specs.declared.action.Action.{Action}
 use Rattle.panel.specs.declared.action.Action.TheVariants.{Pass, Keep, HandOver, Hold, MoveOn}
 use Rattle.arrow.specs.World.{Panel, World, is_open, panel_at}
-use Rattle.arrow.specs.Rules.{Outcome, refuse, on_panel, on_holder, send, with_lanes, with_panel, with_counts, with_part, count_book, holds, followed, about, emptied, turned, with_row, by_rest, count_find, count_grant, moves_on, meets, deliver_call, deliver_refusal, spare_after, read_answer}
+use Rattle.arrow.specs.Rules.{Outcome, refuse, on_panel, on_holder, send, with_lanes, with_panel, with_counts, with_part, count_book, holds, count_find, count_grant, moves_on, meets, deliver_call, deliver_refusal, spare_after, read_answer}
 use Rattle.panel.specs.declared.record.Panel.{Panel as PanelRecord}
 use Rattle.panel.specs.Steps.{panel_of}
 

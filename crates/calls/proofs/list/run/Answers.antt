@@ -1,4 +1,4 @@
-use Rattle.std.proofs.Common.{◌≡◌, [], length, take, sym, refl, ap, subst, arith, rules}
+use Rattle.std.proofs.Common.{[], length, take, subst}
 use Rattle.std.proofs.lemmas.List.{take_all}
 use Rattle.arrow.proofs.Law.{law_over_runs}
 use Rattle.calls.specs.Called.{ReachedBy}

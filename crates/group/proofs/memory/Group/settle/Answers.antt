@@ -5,7 +5,7 @@ use Rattle.arrow.specs.declared.state.State.TheVariants.{Resting}
 use Rattle.tree.specs.Answers.{parents}
 use Rattle.tree.proofs.Facts.{parents_lawful, some_panel}
 use Rattle.group.specs.Whole.{whole}
-use Rattle.panel.specs.Steps.{panel_of, row_words}
+use Rattle.panel.specs.Steps.{row_words}
 use Rattle.group.proofs.Openings.{opening_is}
 use Rattle.group.proofs.Stored.{stored_at, world_with}
 use Rattle.group.proofs.memory.Group.settle.Goals as goal
