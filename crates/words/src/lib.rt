@@ -2,6 +2,7 @@
 // Assumes nothing.
 #![tactic(auto)]
 
+pub mod body;
 pub mod event;
 pub mod fields;
 pub mod message;
