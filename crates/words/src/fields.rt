@@ -1,9 +1,9 @@
 // The fields of a word: where its bits are shared out.
 // Assumes nothing.
-ghost use Rattle.std.specs.Prelude.{◌≡◌, ◌<◌};
-ghost use Rattle.words.specs.Events.{fielded};
-ghost use Rattle.words.specs.Fields.{tag, below_tag, field_a, field_b, field_c, below_fields};
+ghost use Rattle.std.specs.Prelude.{◌≡◌};
+ghost use Rattle.words.specs.Parts.{word_of, Parted};
 
+use crate::kind::Kind;
 use crate::refusal::Refusal;
 
 // How many panels a group may have: a panel number has five bits.
@@ -22,40 +22,39 @@ const FIELD_B: u32 = 1 << 18;
 
 const FIELD_C: u32 = 1 << 13;
 
-// The kind and the three fields of an event word, and what stands below them.
+// The kind and the three fields of an event word that has no bits below them.
 #[derive(Clone, Copy)]
-pub(crate) struct Fields {
-    pub kind: u32,
-    pub a: usize,
-    pub b: usize,
-    pub c: usize,
-    pub low: u32,
-}
+pub(crate) struct Fields(pub Kind, pub usize, pub usize, pub usize);
 
 // A word, taken apart.
-pub(crate) fn split(word: u32) -> Fields
-    ensures kind { result.kind ≡ tag word }
-    ensures a { result.a ≡ field_a word }
-    ensures b { result.b ≡ field_b word }
-    ensures c { result.c ≡ field_c word }
-    ensures low { result.low ≡ below_fields word }
-{
-    Fields {
-        kind: word / KIND,
-        a: (word / FIELD_A % FIELD) as usize,
-        b: (word / FIELD_B % FIELD) as usize,
-        c: (word / FIELD_C % FIELD) as usize,
-        low: word % FIELD_C,
+impl TryFrom<u32> for Fields {
+    type Error = Refusal;
+
+    ghost try_from_gives = { Parted };
+
+    fn try_from(word: u32) -> Result<Fields, Refusal> {
+        if word % FIELD_C != 0 {
+            return Err(Refusal::UnlawfulWord);
+        }
+        let kind = Kind::try_from(word / KIND)?;
+        let a = (word / FIELD_A % FIELD) as usize;
+        let b = (word / FIELD_B % FIELD) as usize;
+        let c = (word / FIELD_C % FIELD) as usize;
+        Ok(Fields(kind, a, b, c))
     }
 }
 
 // The word of a kind and three fields, each of which has to fit its five bits.
-pub(crate) fn join(kind: u32, a: usize, b: usize, c: usize) -> Result<u32, Refusal>
-    requires { kind < 16 }
-    ensures { result ≡ fielded kind a b c }
-{
-    if a >= PANELS || b >= PANELS || c >= PANELS {
-        return Err(Refusal::UnlawfulWord);
+impl TryFrom<Fields> for u32 {
+    type Error = Refusal;
+
+    ghost try_from_gives = { λ fields word. word ≡ word_of fields };
+
+    fn try_from(fields: Fields) -> Result<u32, Refusal> {
+        let Fields(kind, a, b, c) = fields;
+        if a >= PANELS || b >= PANELS || c >= PANELS {
+            return Err(Refusal::UnlawfulWord);
+        }
+        Ok(kind as u32 * KIND + a as u32 * FIELD_A + b as u32 * FIELD_B + c as u32 * FIELD_C)
     }
-    Ok(kind * KIND + a as u32 * FIELD_A + b as u32 * FIELD_B + c as u32 * FIELD_C)
 }

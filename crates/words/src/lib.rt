@@ -5,6 +5,7 @@
 pub mod body;
 pub mod event;
 pub mod fields;
+mod kind;
 pub mod message;
 pub mod refusal;
 pub mod rule_number;

@@ -4,12 +4,8 @@ ghost use Rattle.std.specs.Prelude.{◌≡◌};
 ghost use Rattle.words.specs.Messages.{message_word, message_of, MessagesReadBack, MessagesAreMade};
 
 use crate::fields::{KIND, PANELS};
+use crate::kind::Kind;
 use crate::refusal::Refusal;
-
-// The kinds of message words.
-const FIND: u32 = 1;
-
-const BOOK: u32 = 2;
 
 // What a parcel is for: a find word looks for the book on behalf of the panel that asks, a book word brings it to a panel.
 #[derive(Clone, Copy)]
@@ -24,14 +20,7 @@ impl Message {
         ensures answer { result ≡ message_word self }
         ensures law { MessagesReadBack }
     {
-        let (kind, panel) = match self {
-            Message::Find { asker } => (FIND, asker),
-            Message::Book { addressee } => (BOOK, addressee),
-        };
-        if panel >= PANELS {
-            return Err(Refusal::UnlawfulWord);
-        }
-        Ok(kind * KIND + panel as u32)
+        u32::try_from(self)
     }
 
     // The message that a word stands for.
@@ -39,13 +28,40 @@ impl Message {
         ensures answer { result ≡ message_of word }
         ensures law { MessagesAreMade }
     {
+        Message::try_from(word)
+    }
+}
+
+impl TryFrom<Message> for u32 {
+    type Error = Refusal;
+
+    ghost try_from_gives = { λ message word. word ≡ message_word message };
+
+    fn try_from(message: Message) -> Result<u32, Refusal> {
+        let (kind, panel) = match message {
+            Message::Find { asker } => (Kind::Find, asker),
+            Message::Book { addressee } => (Kind::Book, addressee),
+        };
+        if panel >= PANELS {
+            return Err(Refusal::UnlawfulWord);
+        }
+        Ok(kind as u32 * KIND + panel as u32)
+    }
+}
+
+impl TryFrom<u32> for Message {
+    type Error = Refusal;
+
+    ghost try_from_gives = { λ word message. message ≡ message_of word };
+
+    fn try_from(word: u32) -> Result<Message, Refusal> {
         let panel = (word % KIND) as usize;
         if panel >= PANELS {
             return Err(Refusal::UnlawfulWord);
         }
-        match word / KIND {
-            FIND => Ok(Message::Find { asker: panel }),
-            BOOK => Ok(Message::Book { addressee: panel }),
+        match Kind::try_from(word / KIND)? {
+            Kind::Find => Ok(Message::Find { asker: panel }),
+            Kind::Book => Ok(Message::Book { addressee: panel }),
             _ => Err(Refusal::UnlawfulWord),
         }
     }

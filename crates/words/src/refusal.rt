@@ -1,9 +1,11 @@
 // The refusals: one enum, and the number of each.
 // Assumes nothing.
-ghost use Rattle.std.specs.Prelude.{◌≡◌};
+ghost use Rattle.std.specs.Prelude.{◌≡◌, Some, decimal};
 ghost use Rattle.words.specs.Refusals.{number_of};
 
 use crate::rule_number::RuleNumber;
+use std::error::Error;
+use std::fmt;
 
 // Why a call was refused. Every refusal leaves everything as it was.
 #[derive(Clone, Copy, PartialEq, Eq, Debug)]
@@ -35,7 +37,15 @@ impl Refusal {
     pub fn number(self) -> u8
         ensures { result ≡ number_of self }
     {
-        match self {
+        u8::from(self)
+    }
+}
+
+impl From<Refusal> for u8 {
+    ghost from_gives = { λ refusal number. number ≡ number_of refusal };
+
+    fn from(refusal: Refusal) -> u8 {
+        match refusal {
             Refusal::NotOpen => 1,
             Refusal::AlreadyOpen => 2,
             Refusal::UnlawfulTree => 3,
@@ -59,3 +69,15 @@ impl Refusal {
         }
     }
 }
+
+// A refusal is printed as its number.
+impl fmt::Display for Refusal {
+    ghost output = { λ refusal. Some (decimal (number_of refusal)) };
+
+    fn fmt<W: fmt::Write>(&self, f: &mut fmt::Formatter<W>) -> fmt::Result {
+        let number = self.number();
+        write!(f, "{number}")
+    }
+}
+
+impl Error for Refusal {}

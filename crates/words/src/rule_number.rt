@@ -3,6 +3,7 @@
 ghost use Rattle.std.specs.Prelude.{◌≡◌, ◌<◌, MatchOption};
 
 // A number from 1 to 255. No other number can be held, so no refusal has the number 0.
+// No plainer as a NonZeroU8: definitions name the field `value`, which std's type does not show.
 #[derive(Clone, Copy, PartialEq, Eq, Debug)]
 pub struct RuleNumber {
     value: u8,

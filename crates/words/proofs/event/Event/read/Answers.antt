@@ -1,6 +1,5 @@
-use Rattle.std.proofs.Common.{rules}
 use Rattle.words.proofs.Events.{are_made}
 use Rattle.words.proofs.event.Event.read.Goals as goal
 
-pub returns : goal.returns
-returns c = record { answer = search rules; law = are_made }
+pub returns-clause-law : goal.returns-clause-law
+returns-clause-law c = are_made

@@ -1,6 +1,5 @@
-use Rattle.std.proofs.Common.{rules}
 use Rattle.words.proofs.Events.{read_back}
 use Rattle.words.proofs.event.Event.word.Goals as goal
 
-pub returns : goal.returns
-returns c = record { answer = search rules; law = read_back }
+pub returns-clause-law : goal.returns-clause-law
+returns-clause-law c = read_back
