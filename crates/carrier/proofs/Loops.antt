@@ -1,5 +1,5 @@
 -- A lane of any carrier through posts and takes. Assumes nothing.
-use Rattle.std.proofs.Common.{◌≡◌, ℕ, zero, suc, ◌<◌, ◌≤◌, List, [], ◌∷◌, ◌++◌, length, take, set, Some, None, Ok, Err, Option, Result, sym, refl, ap, ◌∙◌, subst, inl, inr, arith, length-set, length-take}
+use Rattle.std.proofs.Common.{◌≡◌, ℕ, zero, suc, ◌<◌, ◌≤◌, List, [], ◌∷◌, ◌++◌, length, take, set, Some, None, Ok, Err, Option, Result, sym, ap, ◌∙◌, inl, inr, arith, length-set, length-take}
 use Rattle.std.specs.List.{remove}
 use Rattle.std.proofs.lemmas.List.Edits.{length-remove}
 use Rattle.std.proofs.lemmas.List.{get_or-set_same, set-set, set-get_or, nil_from_length, take_at}
@@ -8,7 +8,7 @@ use Rattle.words.specs.declared.refusal.Refusal.{Refusal}
 use Rattle.words.specs.declared.refusal.Refusal.TheVariants.{LaneEmpty}
 use Rattle.carrier.specs.declared.storage.Packet.{Packet}
 use Rattle.carrier.specs.Loopback.{loopback_refusal, Drawn, Filled, Both}
-use Rattle.carrier.specs.Parcels.{Parcel, Lanes, waiting, at_place, longest_body, lane_room, count_refusal, post_refusal, take_refusal, posted, taken, laid, Posted}
+use Rattle.carrier.specs.Parcels.{Parcel, Lanes, waiting, at_place, longest_body, lane_room, post_refusal, take_refusal, posted, laid, Posted}
 use Rattle.carrier.specs.Stored.{parcel_of}
 
 -- a parcel is read back from a space that its body was laid into

@@ -1,5 +1,5 @@
 -- When a parcel waits on some lane, and when none does. Assumes nothing.
-use Rattle.std.proofs.Common.{◌≡◌, ℕ, zero, suc, ◌+◌, ◌<◌, true, false, [], ◌∷◌, length, refl, arith}
+use Rattle.std.proofs.Common.{◌≡◌, ℕ, zero, suc, ◌<◌, true, false, [], ◌∷◌, length, refl, arith}
 use Rattle.carrier.specs.Parcels.{Lanes, waiting, any_waits}
 
 pub some_waits : (lanes : Lanes) (lane : ℕ) → 0 < length (waiting lanes lane) → any_waits lanes ≡ true

@@ -1,45 +1,13 @@
 // The lanes of a carrier: the queue at k is lane k.
 // Assumes nothing.
 ghost use Rattle.carrier.specs.Parcels.{waiting, Counted, Posted, TakenAt};
-ghost use Rattle.carrier.specs.Stored.{lanes_in, lanes_of, place_of, Opened};
+ghost use Rattle.carrier.specs.Stored.{lanes_of, place_of, Opened};
 
 use crate::storage::{End, Packet, Queue, Storage};
 use crate::traits::{ENOUGH_SPACE, MOST_LANES, Received};
+use arrayvec::ArrayVec;
+use std::array;
 use words::refusal::Refusal;
-
-// How many parcels wait in a lane.
-fn count(queues: &[Queue], lane: usize) -> Result<usize, Refusal>
-    ensures { Counted (lanes_in queues.now) lane result }
-{
-    if lane >= queues.len() {
-        return Err(Refusal::NoSuchLane);
-    }
-    Ok(queues[lane].held())
-}
-
-// Adds a parcel at the end of a lane.
-fn post(queues: &mut [Queue], lane: usize, head: u32, body: &[u32]) -> Result<(), Refusal>
-    ensures { Posted (lanes_in queues.old) lane head body.now result (lanes_in queues.new) }
-{
-    if lane >= queues.len() {
-        return Err(Refusal::NoSuchLane);
-    }
-    let packet = Packet::new(head, body)?;
-    queues[lane].push(packet)
-}
-
-// Removes the parcel at an end of a lane and gives it out.
-fn take(queues: &mut [Queue], lane: usize, end: End, space: &mut [u32]) -> Result<Received, Refusal>
-    ensures { TakenAt (place_of end (waiting (lanes_in queues.old) lane)) (lanes_in queues.old) lane space.old result space.new (lanes_in queues.new) }
-{
-    if lane >= queues.len() {
-        return Err(Refusal::NoSuchLane);
-    }
-    if space.len() < ENOUGH_SPACE {
-        return Err(Refusal::SpaceTooShort);
-    }
-    queues[lane].pull(end, space)
-}
 
 impl Storage {
     // So many lanes, all empty.
@@ -49,24 +17,25 @@ impl Storage {
         if lanes > MOST_LANES {
             return Err(Refusal::NoSuchLane);
         }
-        Ok(Storage {
-            count: lanes,
-            queues: [Queue::empty(); MOST_LANES],
-        })
+        let mut queues = ArrayVec::from(array::from_fn(|_| Queue::default()));
+        queues.truncate(lanes);
+        Ok(Storage { queues })
     }
 
     // How many parcels wait in a lane.
     pub(crate) fn count(&self, lane: usize) -> Result<usize, Refusal>
         ensures { Counted (lanes_of self.now) lane result }
     {
-        count(&self.queues[0..self.count], lane)
+        let queue = self.queues.get(lane).ok_or(Refusal::NoSuchLane)?;
+        Ok(queue.held())
     }
 
     // Adds a parcel at the end of a lane.
     pub(crate) fn post(&mut self, lane: usize, head: u32, body: &[u32]) -> Result<(), Refusal>
         ensures { Posted (lanes_of self.old) lane head body.now result (lanes_of self.new) }
     {
-        post(&mut self.queues[0..self.count], lane, head, body)
+        let queue = self.queues.get_mut(lane).ok_or(Refusal::NoSuchLane)?;
+        queue.push(Packet::new(head, body)?)
     }
 
     // Removes the parcel at an end of a lane and gives it out.
@@ -78,6 +47,10 @@ impl Storage {
     ) -> Result<Received, Refusal>
         ensures { TakenAt (place_of end (waiting (lanes_of self.old) lane)) (lanes_of self.old) lane space.old result space.new (lanes_of self.new) }
     {
-        take(&mut self.queues[0..self.count], lane, end, space)
+        let queue = self.queues.get_mut(lane).ok_or(Refusal::NoSuchLane)?;
+        if space.len() < ENOUGH_SPACE {
+            return Err(Refusal::SpaceTooShort);
+        }
+        queue.pull(end, space)
     }
 }

@@ -22,15 +22,6 @@ impl Packet {
         Ok(Packet { head, size, words })
     }
 
-    // A packet with the head 0 and an empty body.
-    pub(crate) fn blank() -> Packet {
-        Packet {
-            head: 0,
-            size: 0,
-            words: [0; LONGEST_BODY],
-        }
-    }
-
     // The body of the parcel.
     pub fn body(&self) -> &[u32]
         ensures whole { result.now ≡ (parcel_of self.now).body }
@@ -51,6 +42,17 @@ impl Packet {
         Received {
             head: self.head,
             size: body.len(),
+        }
+    }
+}
+
+// The head 0 and an empty body.
+impl Default for Packet {
+    fn default() -> Packet {
+        Packet {
+            head: 0,
+            size: 0,
+            words: [0; LONGEST_BODY],
         }
     }
 }

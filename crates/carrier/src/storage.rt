@@ -1,9 +1,10 @@
 // How the parcels of a carrier are held in memory of fixed size.
 // Assumes nothing.
-ghost use Rattle.std.specs.Prelude.{◌≡◌, ◌<◌, ◌≤◌, length};
-ghost use Rattle.carrier.specs.Parcels.{most_lanes, longest_body, lane_room};
+ghost use Rattle.std.specs.Prelude.{◌≡◌, ◌≤◌, length};
+ghost use Rattle.carrier.specs.Parcels.{most_lanes, longest_body};
 
 use crate::traits::{LANE_ROOM, LONGEST_BODY, MOST_LANES};
+use arrayvec::ArrayVec;
 
 // An end of a lane: where its oldest or its newest parcel waits.
 #[derive(Clone, Copy)]
@@ -22,22 +23,15 @@ pub struct Packet {
     ghost whole: { length words ≡ longest_body },
 }
 
-// The waiting parcels of one lane, as a ring of packets: `held` of them from `first` on.
-#[derive(Clone, Copy)]
+// The waiting parcels of one lane, in order of arrival.
+#[derive(Default, Drop)]
 pub struct Queue {
-    pub(crate) first: usize,
-    pub(crate) held: usize,
-    pub(crate) packets: [Packet; LANE_ROOM],
-    ghost starts: { first < lane_room },
-    ghost fits: { held ≤ lane_room },
-    ghost whole: { length packets ≡ lane_room },
+    pub(crate) packets: ArrayVec<Packet, LANE_ROOM>,
 }
 
-// The lanes of a carrier: the first `count` queues.
+// The lanes of a carrier: the queue at k is lane k.
 #[derive(Drop)]
 pub struct Storage {
-    pub(crate) count: usize,
-    pub(crate) queues: [Queue; MOST_LANES],
-    ghost fits: { count ≤ most_lanes },
-    ghost whole: { length queues ≡ most_lanes },
+    pub(crate) queues: ArrayVec<Queue, MOST_LANES>,
+    ghost few: { length queues.items ≤ most_lanes },
 }

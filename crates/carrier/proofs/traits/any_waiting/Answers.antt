@@ -1,4 +1,4 @@
-use Rattle.std.proofs.Common.{◌<◌, length, sym, arith, rules, below_more}
+use Rattle.std.proofs.Common.{sym, arith, rules, below_more}
 use Rattle.std.proofs.lemmas.Bool.Decides.{nat_tests}
 use Rattle.carrier.proofs.traits.any_waiting.Goals as goal
 use Rattle.carrier.proofs.Waits.{some_waits, none_waits}

@@ -1,6 +1,5 @@
-use Rattle.std.proofs.Common.{◌≡◌, length, sym, ap, ◌∙◌, arith, rules}
+use Rattle.std.proofs.Common.{length, ap, ◌∙◌, arith, rules}
 use Rattle.std.proofs.lemmas.List.{places, take_at}
-use Rattle.carrier.specs.Parcels.{Parcel}
 use Rattle.carrier.proofs.storage.Packet.new.Goals as goal
 
 pub invariant_of-result : goal.invariant_of-result
