@@ -1,6 +1,8 @@
 -- What waits on a carrier, and what each call on it answers and leaves. Assumes nothing.
-use Rattle.std.specs.Prelude.{◌≡◌, ℕ, ◌<◌, Bool, true, false, cond, List, [], ◌∷◌, ◌++◌, length, drop, Some, None, Ok, Err, Option, Result, nat_le, nat_lt, slice_index_or, slice_set}
+use Rattle.std.specs.Prelude.{◌≡◌, ℕ, ◌<◌, Bool, true, false, cond, List, [], ◌∷◌, ◌++◌, length, Some, None, Ok, Err, Option, Result, nat_le, nat_lt, slice_index_or, slice_set}
 use Rattle.std.specs.List.{remove}
+-- the most words that a body has, and a space after a body was laid into it
+pub use Rattle.words.specs.Bodies.{longest_body, laid}
 use Rattle.words.specs.declared.refusal.Refusal.{Refusal}
 use Rattle.words.specs.declared.refusal.Refusal.TheVariants.{NoSuchLane, LaneEmpty, LaneFull, BodyTooLong, SpaceTooShort}
 use Rattle.carrier.specs.declared.traits.Received.{Received}
@@ -25,10 +27,6 @@ at_place parcels place = slice_index_or parcels place (record { head = 0; body =
 -- the most lanes that a carrier has
 abbrev pub most_lanes : ℕ
 most_lanes = 64
-
--- the most words that a body has
-abbrev pub longest_body : ℕ
-longest_body = 32
 
 -- the number of waiting parcels from which on a lane takes no other
 abbrev pub lane_room : ℕ
@@ -63,10 +61,6 @@ posted lanes lane parcel = slice_set lanes lane (waiting lanes lane ++ parcel �
 -- the lanes after a take: the parcel at the place is gone, the others of its lane are in their order
 abbrev pub taken : Lanes → ℕ → ℕ → Lanes
 taken lanes lane place = slice_set lanes lane (remove (waiting lanes lane) place)
-
--- a space after a body was laid into it: the body in its first words, the other words as they were
-abbrev pub laid : List ℕ → List ℕ → List ℕ
-laid body space = body ++ drop (length body) space
 
 -- What count answers.
 abbrev pub Counted : Lanes → ℕ → Result ℕ Refusal → Type 0

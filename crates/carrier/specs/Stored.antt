@@ -1,7 +1,8 @@
 -- What the storage of a carrier means: the parcels that it holds. Assumes nothing.
-use Rattle.std.specs.Prelude.{◌≡◌, ℕ, ◌-◌, ◌<◌, ◌≤◌, cond, List, [], ◌∷◌, ◌++◌, map, length, take, replicate, Some, None, Ok, Err, Option, Result, nat_lt}
+use Rattle.std.specs.Prelude.{◌≡◌, ℕ, ◌-◌, ◌<◌, ◌≤◌, cond, List, [], ◌∷◌, ◌++◌, map, length, replicate, Some, None, Ok, Err, Option, Result, nat_lt}
 use Rattle.carrier.specs.Parcels.{Parcel, Lanes, longest_body, lane_room, most_lanes, Gave}
 use Rattle.std.specs.List.{remove}
+use Rattle.words.specs.BodyWords.{body_words}
 use Rattle.words.specs.declared.refusal.Refusal.{Refusal}
 use Rattle.words.specs.declared.refusal.Refusal.TheVariants.{BodyTooLong, LaneFull, LaneEmpty, NoSuchLane}
 use Rattle.carrier.specs.declared.storage.End.{End}
@@ -13,7 +14,7 @@ use Rattle.carrier.specs.declared.traits.Received.{Received}
 
 -- the parcel that a packet holds
 abbrev pub parcel_of : Packet → Parcel
-parcel_of packet = record { head = packet.head; body = take packet.size packet.words }
+parcel_of packet = record { head = packet.head; body = body_words packet.body }
 
 -- What making a packet answers.
 abbrev pub Packed : ℕ → List ℕ → Result Packet Refusal → Type 0

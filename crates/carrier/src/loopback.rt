@@ -21,11 +21,7 @@ pub fn take_packet<C: Carrier>(carrier: &mut C, lane: usize) -> Result<Packet, R
 {
     let mut words = [0; LONGEST_BODY];
     let received = carrier.take(lane, &mut words)?;
-    Ok(Packet {
-        head: received.head,
-        size: received.size,
-        words,
-    })
+    Packet::new(received.head, &words[..received.size])
 }
 
 // Posts two parcels to a lane in which nothing waits.

@@ -5,7 +5,8 @@ ghost use Rattle.carrier.specs.Parcels.{longest_body, laid};
 ghost use Rattle.carrier.specs.Stored.{parcel_of, Packed};
 
 use crate::storage::Packet;
-use crate::traits::{LONGEST_BODY, Received};
+use crate::traits::Received;
+use words::body::Body;
 use words::refusal::Refusal;
 
 impl Packet {
@@ -13,13 +14,10 @@ impl Packet {
     pub fn new(head: u32, body: &[u32]) -> Result<Packet, Refusal>
         ensures { Packed head body.now result }
     {
-        let size = body.len();
-        if size > LONGEST_BODY {
-            return Err(Refusal::BodyTooLong);
-        }
-        let mut words = [0; LONGEST_BODY];
-        words[0..size].copy_from_slice(body);
-        Ok(Packet { head, size, words })
+        Ok(Packet {
+            head,
+            body: Body::try_from(body)?,
+        })
     }
 
     // The body of the parcel.
@@ -27,7 +25,7 @@ impl Packet {
         ensures whole { result.now ≡ (parcel_of self.now).body }
         ensures short { length result.now ≤ longest_body }
     {
-        &self.words[0..self.size]
+        self.body.words()
     }
 
     // Gives the parcel out: its body into the first words of the space.
@@ -37,22 +35,10 @@ impl Packet {
         ensures size { result.size ≡ length (parcel_of self.now).body }
         ensures space { space.new ≡ laid (parcel_of self.now).body space.old }
     {
-        let body = self.body();
-        space[0..body.len()].copy_from_slice(body);
+        self.body.lay(space).unwrap();
         Received {
             head: self.head,
-            size: body.len(),
-        }
-    }
-}
-
-// The head 0 and an empty body.
-impl Default for Packet {
-    fn default() -> Packet {
-        Packet {
-            head: 0,
-            size: 0,
-            words: [0; LONGEST_BODY],
+            size: self.body().len(),
         }
     }
 }

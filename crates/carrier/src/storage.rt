@@ -1,10 +1,11 @@
 // How the parcels of a carrier are held in memory of fixed size.
 // Assumes nothing.
-ghost use Rattle.std.specs.Prelude.{◌≡◌, ◌≤◌, length};
-ghost use Rattle.carrier.specs.Parcels.{most_lanes, longest_body};
+ghost use Rattle.std.specs.Prelude.{◌≤◌, length};
+ghost use Rattle.carrier.specs.Parcels.{most_lanes};
 
-use crate::traits::{LANE_ROOM, LONGEST_BODY, MOST_LANES};
+use crate::traits::{LANE_ROOM, MOST_LANES};
 use arrayvec::ArrayVec;
+use words::body::Body;
 
 // An end of a lane: where its oldest or its newest parcel waits.
 #[derive(Clone, Copy)]
@@ -13,14 +14,11 @@ pub enum End {
     Newest,
 }
 
-// One parcel in memory of its own: the first `size` words are its body.
-#[derive(Clone, Copy)]
+// One parcel in memory of its own.
+#[derive(Clone, Copy, Default)]
 pub struct Packet {
     pub(crate) head: u32,
-    pub(crate) size: usize,
-    pub(crate) words: [u32; LONGEST_BODY],
-    ghost fits: { size ≤ longest_body },
-    ghost whole: { length words ≡ longest_body },
+    pub(crate) body: Body,
 }
 
 // The waiting parcels of one lane, in order of arrival.

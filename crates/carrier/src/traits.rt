@@ -3,6 +3,7 @@
 ghost use Rattle.std.specs.Prelude.{◌≡◌, ℕ, ◌≤◌, length};
 ghost use Rattle.carrier.specs.Parcels.{Lanes, waiting, at_place, most_lanes, longest_body, any_waits, Counted, Posted, Taken, TakenAt};
 
+pub use words::body::LONGEST_BODY;
 use words::refusal::Refusal;
 
 // What a take gave out: the parcel's head word, and how many words its body has.
@@ -14,9 +15,6 @@ pub struct Received {
 
 // The most lanes that a carrier has.
 pub const MOST_LANES: usize = 64;
-
-// The most words that a body has.
-pub const LONGEST_BODY: usize = 32;
 
 // A lane in which so many parcels wait takes no other.
 pub const LANE_ROOM: usize = 2;
