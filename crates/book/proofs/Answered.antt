@@ -1,5 +1,5 @@
 -- What an answer and the words that were left tell of what was made. Assumes nothing.
-use Rattle.std.proofs.Common.{◌≡◌, ℕ, List, Ok, Err, Result, ap, arith}
+use Rattle.std.proofs.Common.{◌≡◌, ℕ, List, Ok, Err, Result, ap}
 use Rattle.book.specs.Kinds.{answered}
 
 module _ {E : Type 0} (words left : List ℕ) where
@@ -9,10 +9,5 @@ module _ {E : Type 0} (words left : List ℕ) where
 
   -- where the answer is Ok, what was made is left
   pub answered_ok : (made : Result (List ℕ) E) → Says (Ok tt) made → made ≡ Ok left
-  answered_ok (Ok new) e = let same = ap (λ p. p.1) e in cc
-  answered_ok (Err f) e = let z : ◌≡◌ {A = ℕ} 0 1 = cc (ap (λ p. p.0) e) in absurd (omega arith)
-
-  -- where it is a refusal, that was made, and the words are as they were
-  pub answered_err : (made : Result (List ℕ) E) (f : E) → Says (Err f) made → (made ≡ Err f) × (left ≡ words)
-  answered_err (Ok new) f e = let z : ◌≡◌ {A = ℕ} 0 1 = cc (ap (λ p. p.0) e) in absurd (omega arith)
-  answered_err (Err g) f e = let same = ap (λ p. p.0) e in (cc, ap (λ p. p.1) e)
+  answered_ok (Ok new) e = cc (ap (λ p. p.1) e)
+  answered_ok (Err f) e = cc (ap (λ p. p.0) e)

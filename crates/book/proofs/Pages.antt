@@ -1,30 +1,22 @@
 -- The page of a book is lawful, and what one entry more makes of it. Assumes nothing.
 use Rattle.std.proofs.Common.{◌≡◌, ℕ, ◌+◌, ◌-◌, ◌<◌, ◌≤◌, Bool, true, false, cond, ltb, List, [], ◌∷◌, ◌++◌, length, get_or, take, drop, Ok, Err, fold, Result, sym, refl, ap, ◌∙◌, arith}
-use Rattle.std.proofs.lemmas.List.{drop_at, take_all, take_at}
+use Rattle.std.proofs.lemmas.List.{drop_at, take_at}
 use Rattle.std.proofs.lemmas.List.Sums.{fold_more}
-use Rattle.std.proofs.lemmas.Bool.{le-ltb, ltb-false}
+use Rattle.std.proofs.lemmas.Bool.{ltb-false}
 use Rattle.words.specs.declared.refusal.Refusal.{Refusal}
 use Rattle.words.specs.declared.refusal.Refusal.TheVariants.{SpaceTooShort, UnlawfulRow}
 use Rattle.words.specs.declared.rule_number.RuleNumber.{RuleNumber}
 use Rattle.book.specs.Kinds.{Book, Kept, Sound, answered, applied, by_rule, opened, placed}
-use Rattle.book.specs.Pages.{page, paged, row_after}
-use Rattle.book.proofs.Answered.{Says, answered_err, answered_ok}
+use Rattle.book.specs.Pages.{page, row_after}
+use Rattle.book.proofs.Answered.{Says, answered_ok}
 
 -- a row that was put into a space, which was long enough
 pub placed_ok : (width : ℕ) (row space left : List ℕ) → placed width row space ≡ Ok left → (width ≤ length space) × (left ≡ row ++ drop width space)
 placed_ok width row space left = go (ltb (length space) width) refl
   where
     go : (t : Bool) → ltb (length space) width ≡ t → ◌≡◌ {A = Result (List ℕ) Refusal} (cond t (Err SpaceTooShort) (Ok (row ++ drop width space))) (Ok left) → (width ≤ length space) × (left ≡ row ++ drop width space)
-    go true t e = let z : ◌≡◌ {A = ℕ} 0 1 = cc in absurd (omega arith)
+    go true t e = cc
     go false t e = (ltb-false _ _ t, cc)
-
--- that a space is too short does not depend on the row
-pub placed_err : (width : ℕ) (row row' space : List ℕ) (f : Refusal) → placed width row space ≡ Err f → placed width row' space ≡ Err f
-placed_err width row row' space f = go (ltb (length space) width)
-  where
-    go : (t : Bool) → ◌≡◌ {A = Result (List ℕ) Refusal} (cond t (Err SpaceTooShort) (Ok (row ++ drop width space))) (Err f) → ◌≡◌ {A = Result (List ℕ) Refusal} (cond t (Err SpaceTooShort) (Ok (row' ++ drop width space))) (Err f)
-    go true e = e
-    go false e = let z : ◌≡◌ {A = ℕ} 0 1 = cc in absurd (omega arith)
 
 -- the row that a call leaves of a lawful row
 pub row_left : (b : Book) (row left : List ℕ) (entry : ℕ) (r : Result (Unit {0}) Refusal) → b.lawful row ≡ true → Says row left r (applied b row entry) → left ≡ row_after row (b.rule row entry)
@@ -72,17 +64,3 @@ module _ (b : Book) (s : Sound b) where
       let told' : Says row left r (applied b row (get_or entries i 0)) = rw front at told in
       let made = row_left b row left (get_or entries i 0) r (page_lawful (take i entries)) told' ∙ sym (fold_more (λ row entry. row_after row (b.rule row entry)) b.opening entries i 0 h) in
       λ j. made j ++ back j
-
-  -- the space after the last
-  pub page_all : (entries space start left : List ℕ) (i w : ℕ) → w ≡ b.width → length entries ≤ i → Says space start (Ok tt) (opened b space) → left ≡ page b (take i entries) ++ drop w start → Says space left (Ok tt) (paged b entries space)
-  page_all entries space start left i w e h told is =
-      let put = placed_ok b.width b.opening space start (answered_ok space start (opened b space) told) in
-      let left_is : left ≡ page b entries ++ drop b.width space = is ∙ (λ j. page b (take_all i entries h j) ++ drop (e j) start) ∙ ap (λ l. page b entries ++ l) (behind space start put.1) in
-      let enough : ltb (length space) b.width ≡ false = le-ltb _ _ put.0 in
-      rw (enough, left_is)
-
--- a space that is too short for the opening row is too short for the page
-pub page_refused : (b : Book) (entries space left : List ℕ) (f : Refusal) → Says space left (Err f) (opened b space) → Says space left (Err f) (paged b entries space)
-page_refused b entries space left f told =
-    let p = answered_err space left (opened b space) f told in
-    rw (placed_err b.width b.opening (page b entries) space f p.0, p.1)

@@ -2,7 +2,7 @@
 use Rattle.std.specs.Prelude.{◌≡◌, ℕ, ◌<◌, ◌≤◌, List, Ok, Err, Result}
 use mathlib.Core.HLevel.{is_prop→PathP}
 use Rattle.std.proofs.Math.Bridge.{le_prop}
-use Rattle.std.proofs.Common.{arith, lit≤}
+use Rattle.std.proofs.Common.{lit≤}
 use Rattle.words.specs.declared.rule_number.RuleNumber.{RuleNumber}
 use Rattle.book.specs.Faults.{by_fault, fault_number}
 use Rattle.book.specs.declared.fault.Fault.{Fault}
@@ -23,4 +23,4 @@ fault_le BadByte = lit≤ tt
 -- a row that a rule made is no refusal
 pub by_fault_ok : (v : Result (List ℕ) Fault) (new : List ℕ) → by_fault v ≡ Ok new → v ≡ Ok new
 by_fault_ok (Ok row) new e = cc
-by_fault_ok (Err f) new e = let z : ◌≡◌ {A = ℕ} 0 1 = cc in absurd (omega arith)
+by_fault_ok (Err f) new e = cc

@@ -7,15 +7,15 @@ ghost use Rattle.words.specs.declared.refusal.Refusal.TheVariants.{Rule};
 use words::refusal::Refusal;
 use words::rule_number::RuleNumber;
 
-// What is wrong with an entry. Every fault leaves the row as it was.
+// What is wrong with an entry, each with the number that the rule refuses with. Every fault leaves the row as it was.
 #[derive(Clone, Copy, PartialEq, Eq, Debug)]
 pub enum Fault {
-    UnknownEntry,
-    SameAccount,
-    BalanceTooLow,
-    TextFull,
-    NoSuchPlace,
-    BadByte,
+    UnknownEntry = 13,
+    SameAccount = 14,
+    BalanceTooLow = 15,
+    TextFull = 16,
+    NoSuchPlace = 17,
+    BadByte = 18,
 }
 
 impl Fault {
@@ -23,14 +23,7 @@ impl Fault {
     pub fn number(self) -> u8
         ensures { result ≡ fault_number self }
     {
-        match self {
-            Fault::UnknownEntry => 13,
-            Fault::SameAccount => 14,
-            Fault::BalanceTooLow => 15,
-            Fault::TextFull => 16,
-            Fault::NoSuchPlace => 17,
-            Fault::BadByte => 18,
-        }
+        self as u8
     }
 }
 
@@ -38,9 +31,6 @@ impl From<Fault> for Refusal {
     ghost from_gives = { λ e r. r ≡ Rule (rule_number e) };
 
     fn from(value: Fault) -> Refusal {
-        match RuleNumber::new(value.number()) {
-            Some(own) => Refusal::Rule(own),
-            None => unreachable(),
-        }
+        Refusal::Rule(RuleNumber::new(value.number()).unwrap())
     }
 }

@@ -1,14 +1,15 @@
 // The ledger: tenant accounts between which amounts are moved.
 // Assumes nothing.
-ghost use Rattle.std.specs.Prelude.{◌≡◌, ◌<◌, true, length};
+ghost use Rattle.std.specs.Prelude.{◌≡◌, true};
 ghost use Rattle.book.specs.Kinds.{answered, applied};
-ghost use Rattle.book.specs.Ledgers.{ledger_book, ledger_entry, ledger_lawful, transferred};
-ghost use Rattle.book.specs.Transfers.{AcceptedEntriesPay, Few};
-ghost use Rattle.book.specs.declared.ledger.LedgerEntry.TheVariants.{Transfer};
+ghost use Rattle.book.specs.Ledgers.{ledger_book, ledger_entry, ledger_lawful, ledger_made};
+ghost use Rattle.book.specs.Transfers.{AcceptedEntriesPay};
 ghost use Rattle.book.specs.LedgersLemmas.{ledger_sound};
 
+use crate::bits::Bits;
 use crate::fault::Fault;
 use crate::kind::Kind;
+use crate::space::lay;
 use words::refusal::Refusal;
 
 const ACCOUNTS: usize = 16;
@@ -20,20 +21,16 @@ const TOTAL: u32 = 16_000;
 
 const OPENING: [u32; ACCOUNTS] = [OPENING_BALANCE; ACCOUNTS];
 
-// The tag of a transfer, in bits 31-28 of an entry word.
+// The parts of an entry word, and the tag of a transfer.
+const TAG: Bits = Bits { low: 28, count: 4 };
+
 const TRANSFER: u32 = 1;
 
-const TAG_SHIFT: u32 = 28;
+const PAYER: Bits = Bits { low: 24, count: 4 };
 
-// The paying account, in bits 27-24, and the receiving one, in bits 23-20.
-const PAYER_SHIFT: u32 = 24;
+const PAYEE: Bits = Bits { low: 20, count: 4 };
 
-const PAYEE_SHIFT: u32 = 20;
-
-const ACCOUNT_VALUES: u32 = 1 << 4;
-
-// The amount, in bits 19-0.
-const AMOUNT_VALUES: u32 = 1 << 20;
+const AMOUNT: Bits = Bits { low: 0, count: 20 };
 
 // The kind of a book of tenant accounts.
 #[derive(Clone, Copy)]
@@ -49,26 +46,35 @@ pub enum LedgerEntry {
     },
 }
 
+impl TryFrom<u32> for LedgerEntry {
+    type Error = Fault;
+
+    ghost try_from_gives = { λ word r. r ≡ ledger_entry word };
+
+    fn try_from(word: u32) -> Result<LedgerEntry, Fault> {
+        if TAG.of(word) != TRANSFER {
+            return Err(Fault::UnknownEntry);
+        }
+        Ok(LedgerEntry::Transfer {
+            payer: PAYER.of(word) as usize,
+            payee: PAYEE.of(word) as usize,
+            amount: AMOUNT.of(word),
+        })
+    }
+}
+
 impl LedgerEntry {
     // The entry that a word stands for.
     pub fn read(word: u32) -> Result<LedgerEntry, Fault>
         ensures { result ≡ ledger_entry word }
     {
-        if word >> TAG_SHIFT != TRANSFER {
-            return Err(Fault::UnknownEntry);
-        }
-        Ok(LedgerEntry::Transfer {
-            payer: ((word >> PAYER_SHIFT) % ACCOUNT_VALUES) as usize,
-            payee: ((word >> PAYEE_SHIFT) % ACCOUNT_VALUES) as usize,
-            amount: word % AMOUNT_VALUES,
-        })
+        LedgerEntry::try_from(word)
     }
 }
 
-// Whether a row is lawful. The sum is taken in 64 bits, where sixteen words cannot wrap.
+// Whether a row is lawful. The loop adds in 64 bits, where sixteen words cannot wrap.
 fn is_lawful(row: &[u32]) -> bool
-    ensures answer { result ≡ ledger_lawful row.now }
-    ensures few { result ≡ true → Few row.now }
+    ensures { result ≡ ledger_lawful row.now }
 {
     if row.len() != ACCOUNTS {
         return false;
@@ -80,13 +86,16 @@ fn is_lawful(row: &[u32]) -> bool
     total == u64::from(TOTAL)
 }
 
-// Moves an amount between two accounts of a lawful row, in which no account has more than the total.
-fn transfer(row: &mut [u32], payer: usize, payee: usize, amount: u32) -> Result<(), Fault>
-    requires few { Few row.old }
-    requires pays { payer < length row.old }
-    requires receives { payee < length row.old }
-    ensures { (result, row.new) ≡ answered row.old (transferred row.old (Transfer payer payee amount)) }
+// Carries out an entry on a lawful row, in which no account has more than the total.
+fn transfer(row: &mut [u32], entry: u32) -> Result<(), Fault>
+    requires { ledger_lawful row.old ≡ true }
+    ensures { (result, row.new) ≡ answered row.old (ledger_made row.old (ledger_entry entry)) }
 {
+    let LedgerEntry::Transfer {
+        payer,
+        payee,
+        amount,
+    } = LedgerEntry::try_from(entry)?;
     if payer == payee {
         return Err(Fault::SameAccount);
     }
@@ -104,20 +113,14 @@ fn transfer(row: &mut [u32], payer: usize, payee: usize, amount: u32) -> Result<
     Ok(())
 }
 
-// Carries out an entry on a row.
+// Makes of a row what the rule makes of it and an entry.
 fn write(row: &mut [u32], entry: u32) -> Result<(), Refusal>
     ensures { (result, row.new) ≡ answered row.old (applied ledger_book row.old entry) }
 {
     if !is_lawful(row) {
         return Err(Refusal::UnlawfulRow);
     }
-    let LedgerEntry::Transfer {
-        payer,
-        payee,
-        amount,
-    } = LedgerEntry::read(entry)?;
-    transfer(row, payer, payee, amount)?;
-    Ok(())
+    Ok(transfer(row, entry)?)
 }
 
 impl Kind for Ledger {
@@ -130,11 +133,7 @@ impl Kind for Ledger {
     }
 
     fn opening(&self, space: &mut [u32]) -> Result<(), Refusal> {
-        if space.len() < ACCOUNTS {
-            return Err(Refusal::SpaceTooShort);
-        }
-        space[0..ACCOUNTS].copy_from_slice(&OPENING);
-        Ok(())
+        lay(&OPENING, space)
     }
 
     fn apply(&self, row: &mut [u32], entry: u32) -> Result<(), Refusal>

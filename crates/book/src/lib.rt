@@ -2,9 +2,11 @@
 // Assumes nothing.
 #![tactic(auto)]
 
+pub mod bits;
 pub mod fault;
 pub mod kind;
 pub mod ledger;
 pub mod page;
+pub mod space;
 #[cfg(test)]
 mod tests;

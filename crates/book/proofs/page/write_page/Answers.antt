@@ -1,22 +1,12 @@
--- The page so far, entry by entry, and a refused space. Assumes nothing.
+-- One entry more, and the page is lawful. Assumes nothing.
 use Rattle.std.proofs.Common.{◌-◌, get_or, take}
-use Rattle.std.proofs.lemmas.Result.{err_from_is_err_and}
 use Rattle.book.specs.Kinds.{applied}
 use Rattle.book.proofs.Answered.{Says}
-use Rattle.book.proofs.Pages.{page_all, page_lawful, page_more, page_none, page_refused}
+use Rattle.book.proofs.Pages.{page_lawful, page_more}
 use Rattle.book.proofs.page.write_page.Goals as goal
 
-pub returns-in_err-opening : goal.returns-in_err-opening
-returns-in_err-opening g c =
-    let p = err_from_is_err_and c.from_residual.result c.from_residual.ensures.1 in
-    record {
-      answer = rw (p.1, p.2) (page_refused (g.K.Kind.book c.args.kind.now) c.args.entries.now c.args.space.now c.opening.new.space c.in_err-opening.field-0.0 c.in_err-opening.ensures);
-      lawful = page_lawful (g.K.Kind.book c.args.kind.now) (g.met.K.Kind.sound c.args.kind.now) c.args.entries.now;
-    }
-
-pub loop-entry-init : goal.loop-entry-init
-loop-entry-init g c =
-    page_none (g.K.Kind.book c.args.kind.now) (g.met.K.Kind.sound c.args.kind.now) c.args.space.now c.opening.new.space c.width-width.result c.width-width.ensures c.in_ok-opening.ensures
+pub returns-in_err-opening-clause-lawful : goal.returns-in_err-opening-clause-lawful
+returns-in_err-opening-clause-lawful g c = page_lawful (g.K.Kind.book c.args.kind.now) (g.met.K.Kind.sound c.args.kind.now) c.args.entries.now
 
 pub loop-entry-preserved : goal.loop-entry-preserved
 loop-entry-preserved g c =
@@ -25,9 +15,5 @@ loop-entry-preserved g c =
     page_more (g.K.Kind.book c.args.kind.now) (g.met.K.Kind.sound c.args.kind.now) c.args.entries.now c.opening.new.space c.loop-entry.space c.apply.new.row
     c.loop-entry.entry-index c.width-width.result c.apply.result c.width-width.ensures c.loop-entry-test.true c.loop-entry.invariant told
 
-pub returns : goal.returns
-returns g c = record {
-  answer = page_all (g.K.Kind.book c.args.kind.now) (g.met.K.Kind.sound c.args.kind.now) c.args.entries.now c.args.space.now c.opening.new.space c.loop-entry.space
-      c.loop-entry.entry-index c.width-width.result c.width-width.ensures c.loop-entry-test.false c.in_ok-opening.ensures c.loop-entry.invariant;
-  lawful = page_lawful (g.K.Kind.book c.args.kind.now) (g.met.K.Kind.sound c.args.kind.now) c.args.entries.now;
-}
+pub returns-clause-lawful : goal.returns-clause-lawful
+returns-clause-lawful g c = page_lawful (g.K.Kind.book c.args.kind.now) (g.met.K.Kind.sound c.args.kind.now) c.args.entries.now

@@ -6,4 +6,4 @@ use Rattle.book.specs.Numbers.{same_number}
 use Rattle.book.proofs.fault.RefusalFromFault.from.Goals as goal
 
 pub returns : goal.returns
-returns c = ap Rule (same_number c.in-Some.own (rule_number c.args.value) (search rules))
+returns c = ap Rule (same_number c.unwrap.result (rule_number c.args.value) (search rules))
