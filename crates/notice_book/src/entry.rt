@@ -3,30 +3,24 @@
 ghost use Rattle.std.specs.Prelude.{◌≡◌};
 ghost use Rattle.notice_book.specs.Notices.{notice_entry};
 
+use book::bits::Bits;
 use book::fault::Fault;
 
-// The tags of entry words, in bits 31-28.
+// The parts of an entry word, and the two tags.
+const TAG: Bits = Bits { low: 28, count: 4 };
+
 const INSERT: u32 = 2;
 
 const DELETE: u32 = 3;
 
-const TAG_SHIFT: u32 = 28;
+const PLACE: Bits = Bits { low: 20, count: 8 };
 
-// The place in the text, in bits 27-20.
-const PLACE_SHIFT: u32 = 20;
+const BYTE: Bits = Bits { low: 0, count: 8 };
 
-const PLACE_VALUES: u32 = 1 << 8;
+// The bits of an insert, and those of a delete, that are zero.
+const INSERT_ZERO: Bits = Bits { low: 8, count: 12 };
 
-// The byte of an insert, in bits 7-0.
-const BYTE_VALUES: u32 = 1 << 8;
-
-// Bits 19-8 of an insert are zero.
-const INSERT_ZERO_SHIFT: u32 = 8;
-
-const INSERT_ZERO_VALUES: u32 = 1 << 12;
-
-// Bits 19-0 of a delete are zero.
-const DELETE_ZERO_VALUES: u32 = 1 << 20;
+const DELETE_ZERO: Bits = Bits { low: 0, count: 20 };
 
 // What an entry of the notice asks for.
 #[derive(Clone, Copy, Debug)]
@@ -35,22 +29,29 @@ pub enum NoticeEntry {
     Delete { place: usize },
 }
 
+impl TryFrom<u32> for NoticeEntry {
+    type Error = Fault;
+
+    ghost try_from_gives = { λ word r. r ≡ notice_entry word };
+
+    fn try_from(word: u32) -> Result<NoticeEntry, Fault> {
+        let place = PLACE.of(word) as usize;
+        match TAG.of(word) {
+            INSERT if INSERT_ZERO.of(word) == 0 => Ok(NoticeEntry::Insert {
+                place,
+                byte: BYTE.of(word) as u8,
+            }),
+            DELETE if DELETE_ZERO.of(word) == 0 => Ok(NoticeEntry::Delete { place }),
+            _ => Err(Fault::UnknownEntry),
+        }
+    }
+}
+
 impl NoticeEntry {
     // The entry that a word stands for.
     pub fn read(word: u32) -> Result<NoticeEntry, Fault>
         ensures { result ≡ notice_entry word }
     {
-        let tag = word >> TAG_SHIFT;
-        let place = ((word >> PLACE_SHIFT) % PLACE_VALUES) as usize;
-        if tag == INSERT && (word >> INSERT_ZERO_SHIFT) % INSERT_ZERO_VALUES == 0 {
-            return Ok(NoticeEntry::Insert {
-                place,
-                byte: (word % BYTE_VALUES) as u8,
-            });
-        }
-        if tag == DELETE && word % DELETE_ZERO_VALUES == 0 {
-            return Ok(NoticeEntry::Delete { place });
-        }
-        Err(Fault::UnknownEntry)
+        NoticeEntry::try_from(word)
     }
 }

@@ -10,6 +10,7 @@ ghost use Rattle.notice_book.specs.NoticesLemmas.{notice_sound};
 use crate::entry::NoticeEntry;
 use crate::text::{TEXT_WORDS, Text};
 use book::kind::Kind;
+use book::space::lay;
 use words::refusal::Refusal;
 
 const WIDTH: usize = TEXT_WORDS + 1;
@@ -27,7 +28,7 @@ fn write(row: &mut [u32], entry: u32) -> Result<(), Refusal>
     let Some(text) = Text::read(row) else {
         return Err(Refusal::UnlawfulRow);
     };
-    let edited = match NoticeEntry::read(entry)? {
+    let edited = match NoticeEntry::try_from(entry)? {
         NoticeEntry::Insert { place, byte } => text.insert(place, byte)?,
         NoticeEntry::Delete { place } => text.delete(place)?,
     };
@@ -45,11 +46,7 @@ impl Kind for Notice {
     }
 
     fn opening(&self, space: &mut [u32]) -> Result<(), Refusal> {
-        if space.len() < WIDTH {
-            return Err(Refusal::SpaceTooShort);
-        }
-        space[0..WIDTH].copy_from_slice(&OPENING);
-        Ok(())
+        lay(&OPENING, space)
     }
 
     fn apply(&self, row: &mut [u32], entry: u32) -> Result<(), Refusal>
