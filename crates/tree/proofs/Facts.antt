@@ -176,3 +176,8 @@ module _ (ps : List ℕ) (lawful : lawful_tree ps ≡ true) where
 
   pub lane_between_target : (w u : ℕ) → neighbours ps w u ≡ true → lane_target ps (lane_between ps w u) ≡ u
   lane_between_target w u t = (between_is ps parent_below w u t).1.1
+
+-- the steps of a climb: of both panels, and of the goal of a first step
+pub ruleset climbing = (climb_left, climb_right)
+
+pub ruleset stepping = (parent_below, first_step_from_equal, first_step_smaller, first_step_own_child, first_step_larger)

@@ -7,6 +7,7 @@ ghost use Rattle.tree.specs.Tree.{lawful_tree, most_panels};
 pub const MOST_PANELS: usize = 32;
 
 // A lawful tree: its first `count` entries are the list of parents, and the entries after them mean nothing.
+// An array with a count: the type is Copy, which an ArrayVec is not.
 #[derive(Clone, Copy)]
 pub struct Tree {
     count: usize,

@@ -7,10 +7,7 @@ use words::refusal::Refusal;
 const TOO_MANY: usize = 33;
 
 fn refusal(list: &[usize]) -> Option<Refusal> {
-    match Tree::new(list) {
-        Ok(_) => None,
-        Err(refusal) => Some(refusal),
-    }
+    Tree::new(list).err()
 }
 
 #[test]
@@ -27,6 +24,7 @@ fn lawful_lists_only(rt: HostRuntime) -> Result<(), Fail> {
 #[test]
 fn ways(rt: HostRuntime) -> Result<(), Fail> {
     let tree = Tree::new(&[0, 0, 1, 1])?;
+    assert_eq!(rt; tree.parents(), [0, 0, 1, 1].as_slice());
     for (from, to, cables, step) in [
         (2, 3, 2, 1),
         (3, 0, 2, 1),

@@ -11,6 +11,7 @@ use words::refusal::Refusal;
 
 impl Tree {
     // How many lanes the tree has. They are numbered from 0.
+    #[tactic(auto, using(crate::proofs::Laws::lane_law))]
     pub fn lanes(&self) -> usize
         ensures answer { result ≡ lane_count (parents self.now) }
         ensures numbering { LaneLaw }
@@ -22,9 +23,7 @@ impl Tree {
     pub fn lane_up(&self, panel: usize) -> Result<usize, Refusal>
         ensures { result ≡ panel_lane (parents self.now) panel (up_lane panel) }
     {
-        if panel >= self.panels() {
-            return Err(Refusal::NoSuchPanel);
-        }
+        self.check(panel)?;
         if panel == 0 {
             return Err(Refusal::NoSuchLane);
         }
@@ -40,12 +39,12 @@ impl Tree {
     }
 
     // The lane from a panel to its neighbour; NoSuchPanel, or NoSuchLane where they are not neighbours.
+    #[tactic(auto, unfolding(crate::specs::Tree::neighbours, crate::specs::Tree::lane_between))]
     pub fn lane(&self, from: usize, to: usize) -> Result<usize, Refusal>
         ensures { result ≡ lane_answer (parents self.now) from to }
     {
-        if from >= self.panels() || to >= self.panels() {
-            return Err(Refusal::NoSuchPanel);
-        }
+        self.check(from)?;
+        self.check(to)?;
         if from > 0 && self.parent(from) == to {
             return self.lane_up(from);
         }
@@ -56,6 +55,7 @@ impl Tree {
     }
 
     // The panel that a lane comes from and the panel that it goes to, or NoSuchLane.
+    #[tactic(auto, unfolding(crate::specs::Tree::lane_source, crate::specs::Tree::lane_target))]
     pub fn ends(&self, lane: usize) -> Result<(usize, usize), Refusal>
         ensures { result ≡ ends_answer (parents self.now) lane }
     {

@@ -1,29 +1,33 @@
 // A tree from a lent list of parents, and what it was made from.
 // Assumes nothing.
-ghost use Rattle.std.specs.Prelude.{◌≡◌, ◌<◌, ◌≤◌, true, length, take};
+ghost use Rattle.std.specs.Prelude.{◌≡◌, ◌<◌, ◌≤◌, true, length, take, if◌then◌else◌, nat_lt, drop};
+ghost use Rattle.std.specs.List.{list_all, enumerate_from};
 ghost use Rattle.tree.specs.Answers.{MadeOf, parents};
-ghost use Rattle.tree.specs.Tree.{lawful_tree, most_panels, parent};
+ghost use Rattle.tree.specs.Tree.{lawful_tree, most_panels, exists, parent};
 
 use super::{MOST_PANELS, Tree};
 use words::refusal::Refusal;
 
+// Whether each entry after the first is below its place.
+fn falls(list: &[usize]) -> bool
+    ensures { result ≡ list_all (λ x. nat_lt x.1 x.0) (drop 1 (enumerate_from 0 list.now)) }
+{
+    list.iter()
+        .enumerate()
+        .skip(1)
+        .all(|(place, parent)| *parent < place)
+}
+
 // Whether a list of parents is a tree.
+#[tactic(auto, using(crate::proofs::Lawful::lawful_test))]
 fn is_lawful(list: &[usize]) -> bool
     ensures answer { result ≡ lawful_tree list.now }
     ensures few { result ≡ true → length list.now ≤ most_panels }
 {
-    if list.is_empty() || list.len() > MOST_PANELS {
-        return false;
+    match list {
+        [0, ..] => list.len() <= MOST_PANELS && falls(list),
+        _ => false,
     }
-    if list[0] != 0 {
-        return false;
-    }
-    for i in 1..list.len() {
-        if list[i] >= i {
-            return false;
-        }
-    }
-    true
 }
 
 // A list of parents in the first entries of a whole array.
@@ -51,6 +55,13 @@ impl Tree {
         })
     }
 
+    // The list of parents.
+    pub fn parents(&self) -> &[usize]
+        ensures { result.now ≡ parents self.now }
+    {
+        &self.entries[..self.count]
+    }
+
     // How many panels the tree has.
     pub fn panels(&self) -> usize
         ensures answer { result ≡ length (parents self.now) }
@@ -63,10 +74,17 @@ impl Tree {
     pub fn parent(&self, panel: usize) -> usize
         ensures { result ≡ parent (parents self.now) panel }
     {
-        if panel < self.count {
-            self.entries[panel]
+        self.parents().get(panel).copied().unwrap_or(0)
+    }
+
+    // NoSuchPanel, unless the panel exists.
+    pub(super) fn check(&self, panel: usize) -> Result<(), Refusal>
+        ensures { result ≡ (if exists (parents self.now) panel then Ok tt else Err Refusal.NoSuchPanel) }
+    {
+        if panel < self.panels() {
+            Ok(())
         } else {
-            0
+            Err(Refusal::NoSuchPanel)
         }
     }
 }
