@@ -2,7 +2,7 @@
 // Assumes nothing.
 
 // Requests accepted, find words sent, book words sent, grants, releases accepted.
-#[derive(Clone, Copy, PartialEq, Eq, Debug)]
+#[derive(Clone, Copy, PartialEq, Eq, Debug, Default)]
 pub struct Counts {
     pub requests: u32,
     pub finds: u32,

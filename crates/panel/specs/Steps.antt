@@ -1,6 +1,7 @@
 -- What a row and a panel in memory mean, and what a panel does with a message. Assumes nothing.
-use Rattle.std.specs.Prelude.{◌≡◌, ℕ, Bool, true, false, cond, not, ◌&&◌, List, length, take, Some, None, Ok, Err, Result, ◌==◌, nat_le}
-use Rattle.carrier.specs.Parcels.{longest_body}
+use Rattle.std.specs.Prelude.{◌≡◌, ℕ, Bool, true, false, cond, not, ◌&&◌, List, length, Some, None, Ok, Err, Result, ◌==◌, nat_le}
+use Rattle.words.specs.Bodies.{longest_body}
+use Rattle.words.specs.BodyWords.{body_words}
 use Rattle.words.specs.declared.message.Message.{Message}
 use Rattle.words.specs.declared.message.Message.TheVariants.{Find, Book}
 use Rattle.words.specs.declared.refusal.Refusal.{Refusal}
@@ -16,7 +17,7 @@ use Rattle.panel.specs.declared.row.Row.{Row}
 
 -- the words of a row
 abbrev pub row_words : Row → List ℕ
-row_words r = take r.size r.words
+row_words r = body_words r.body
 
 -- a panel in memory
 abbrev pub panel_of : PanelRecord → Panel

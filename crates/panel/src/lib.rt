@@ -5,5 +5,3 @@
 pub mod action;
 pub mod record;
 pub mod row;
-mod rows;
-mod step;
