@@ -1,5 +1,6 @@
 -- Numbers as a line has them, in bytes. Assumes nothing.
-use Rattle.std.specs.Prelude.{ℕ, ◌+◌, ◌-◌, ◌*◌, Bool, true, cond, ◌&&◌, List, [], ◌∷◌, length, Ok, Err, fold, Result, nat_le}
+use Rattle.std.specs.Prelude.{ℕ, ◌+◌, ◌-◌, ◌*◌, Bool, cond, ◌&&◌, List, length, Ok, Err, fold, Result, nat_le}
+use Rattle.std.specs.List.{list_all}
 use Rattle.words.specs.declared.refusal.Refusal.{Refusal}
 use Rattle.words.specs.declared.refusal.Refusal.TheVariants.{BadLine}
 
@@ -9,8 +10,7 @@ is_digit b = nat_le 48 b && nat_le b 57
 
 -- every byte is a decimal digit
 abbrev pub all_digits : List ℕ → Bool
-all_digits [] = true
-all_digits (b ∷ bs) = is_digit b && all_digits bs
+all_digits bs = list_all is_digit bs
 
 -- the number that a run of decimal digits stands for, the highest digit first
 abbrev pub decimal_value : List ℕ → ℕ

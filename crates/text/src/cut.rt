@@ -8,10 +8,8 @@ pub fn first_place(byte: u8, bytes: &[u8]) -> usize
     ensures before { (k : ℕ) → k < result → slice_index bytes.now k ≢ byte }
     ensures found { result < length bytes.now → slice_index bytes.now result ≡ byte }
 {
-    for (place, here) in bytes.iter().enumerate() {
-        if *here == byte {
-            return place;
-        }
-    }
-    bytes.len()
+    bytes
+        .iter()
+        .position(|here| *here == byte)
+        .unwrap_or(bytes.len())
 }

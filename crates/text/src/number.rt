@@ -1,8 +1,9 @@
 // Reading a number of a line.
 // Assumes nothing.
 ghost use Rattle.std.specs.Prelude.{◌≡◌};
-ghost use Rattle.text.specs.Numbers.{number_of};
+ghost use Rattle.text.specs.Numbers.{number_of, all_digits};
 
+use std::str;
 use words::refusal::Refusal;
 
 // How many digits a number may have.
@@ -12,15 +13,16 @@ pub const DIGITS: usize = 6;
 pub fn number(digits: &[u8]) -> Result<usize, Refusal>
     ensures { result ≡ number_of digits.now }
 {
-    if digits.is_empty() || digits.len() > DIGITS {
+    if digits.len() > DIGITS || !all_digits(digits) {
         return Err(Refusal::BadLine);
     }
-    let mut value = 0;
-    for digit in digits {
-        if *digit < b'0' || *digit > b'9' {
-            return Err(Refusal::BadLine);
-        }
-        value = value * 10 + (*digit - b'0') as usize;
-    }
-    Ok(value)
+    let text = str::from_utf8(digits).unwrap();
+    text.parse().map_err(|_| Refusal::BadLine)
+}
+
+// Whether every byte is a decimal digit.
+fn all_digits(bytes: &[u8]) -> bool
+    ensures { result ≡ all_digits bytes.now }
+{
+    bytes.iter().all(|byte| byte.is_ascii_digit())
 }

@@ -1,15 +1,15 @@
-use Rattle.std.proofs.Common.{rules}
-use Rattle.text.proofs.Numbers.{read_more, read_bad, read_all}
+use Rattle.std.proofs.Common.{◌≡◌, true, rules}
+use Rattle.text.specs.Numbers.{all_digits}
+use Rattle.text.proofs.Numbers.{digits_are_text, parsed}
 use Rattle.text.proofs.number.number.Goals as goal
 
-pub returns-then-digit-lt48 : goal.returns-then-digit-lt48
-returns-then-digit-lt48 c =
-    read_bad c.args.digits.now c.loop-digit.digit-index c.loop-digit.value (search rules) (search rules) c.loop-digit.invariant
-
-pub loop-digit-preserved : goal.loop-digit-preserved
-loop-digit-preserved c =
-    read_more c.args.digits.now c.loop-digit.digit-index c.loop-digit.value (search rules) (search rules) (search rules) c.loop-digit.invariant
+pub unwrap-text-requires : goal.unwrap-text-requires
+unwrap-text-requires c =
+    let digits : all_digits c.args.digits.now ≡ true = search rules in
+    let text = digits_are_text c.args.digits.now digits in
+    search rules
 
 pub returns : goal.returns
 returns c =
-    read_all c.args.digits.now c.loop-digit.digit-index c.loop-digit.value (search rules) (search rules) (search rules) c.loop-digit.invariant
+    let digits : all_digits c.args.digits.now ≡ true = search rules in
+    parsed c.args.digits.now c.parse.result _ digits (search rules) (search rules) (search rules)
