@@ -8,4 +8,4 @@ pub returns : goal.returns
 returns g c =
     let told = c.in_ok-count.ensures in
     let free : loopback_refusal (g.C.Carrier.lanes c.args.carrier.now) c.args.lane ≡ None = grind (arith, nat_tests) in
-    rw (← c.body.ensures.whole, ← c.body-2.ensures.whole) (filled _ _ _ _ _ _ c.post-2.result free c.body-2.ensures.short c.in_ok-post.ensures.1 c.post-2.ensures)
+    simp (← c.body.ensures.whole, ← c.body-2.ensures.whole) (filled _ _ _ _ _ _ c.post-2.result free c.body-2.ensures.short c.in_ok-post.ensures.1 c.post-2.ensures)
