@@ -1,5 +1,6 @@
 -- Bytes in words, and the text that a notice's row stands for. Assumes nothing.
-use Rattle.std.specs.Prelude.{ℕ, ◌+◌, ◌-◌, ◌*◌, ◌/◌, ◌%◌, ◌^◌, Bool, true, false, ◌&&◌, List, [], ◌∷◌, ◌++◌, length, take, drop, replicate, ◌==◌, nat_le}
+use Rattle.std.specs.Prelude.{ℕ, ◌+◌, ◌-◌, ◌*◌, ◌/◌, ◌%◌, ◌^◌, Bool, false, ◌&&◌, List, [], ◌∷◌, ◌++◌, length, take, drop, replicate, ◌==◌, nat_le}
+use Rattle.std.specs.List.{flat_map, list_all}
 
 -- the four bytes of a word, bits 31-24 first. (A word has 32 bits, so its highest byte is a quotient.)
 abbrev pub four_bytes : ℕ → List ℕ
@@ -7,8 +8,7 @@ four_bytes w = w / 2 ^ 24 ∷ w / 2 ^ 16 % 2 ^ 8 ∷ w / 2 ^ 8 % 2 ^ 8 ∷ w % 2
 
 -- the bytes of a list of words
 abbrev pub bytes_of : List ℕ → List ℕ
-bytes_of [] = []
-bytes_of (w ∷ ws) = four_bytes w ++ bytes_of ws
+bytes_of ws = flat_map four_bytes ws
 
 -- the word of four bytes
 abbrev pub word_of : ℕ → ℕ → ℕ → ℕ → ℕ
@@ -39,12 +39,7 @@ printable b = nat_le 32 b && nat_le b 126
 abbrev pub blank : ℕ → Bool
 blank b = b == 0
 
--- a test that every byte passes
-abbrev pub every : (ℕ → Bool) → List ℕ → Bool
-every test [] = true
-every test (b ∷ bs) = test b && every test bs
-
 -- a row is lawful when it has a length of at most 64 and sixteen words, and every byte before the length is printable, every other 0
 abbrev pub notice_lawful : List ℕ → Bool
 notice_lawful [] = false
-notice_lawful (size ∷ words) = length words == 16 && (nat_le size 64 && (every printable (take size (bytes_of words)) && every blank (drop size (bytes_of words))))
+notice_lawful (size ∷ words) = length words == 16 && (nat_le size 64 && (list_all printable (take size (bytes_of words)) && list_all blank (drop size (bytes_of words))))

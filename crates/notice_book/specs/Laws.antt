@@ -1,6 +1,7 @@
 -- What a notice's rows and its rule mean. Assumes nothing.
 use Rattle.std.specs.Prelude.{◌≡◌, ℕ, ◌≤◌, true, List, ◌∷◌, ◌++◌, length, Ok}
-use Rattle.notice_book.specs.Bytes.{every, notice_lawful, printable, row_of, text}
+use Rattle.std.specs.List.{list_all}
+use Rattle.notice_book.specs.Bytes.{notice_lawful, printable, row_of, text}
 use Rattle.notice_book.specs.Notices.{notice_book, notice_entry}
 use Rattle.notice_book.specs.declared.entry.NoticeEntry.{NoticeEntry}
 use Rattle.notice_book.specs.declared.entry.NoticeEntry.TheVariants.{Insert, Delete}
@@ -8,8 +9,8 @@ use Rattle.notice_book.specs.declared.entry.NoticeEntry.TheVariants.{Insert, Del
 -- lawful rows and texts of up to 64 printable bytes are one: each text has a lawful row from which it is read again, and each lawful row is that of its text
 abbrev pub RowsAreTexts : Type 0
 RowsAreTexts =
-    ((t : List ℕ) → length t ≤ 64 → every printable t ≡ true → (notice_lawful (row_of t) ≡ true) × (text (row_of t) ≡ t))
-    × ((row : List ℕ) → notice_lawful row ≡ true → (length (text row) ≤ 64) × (every printable (text row) ≡ true) × (row_of (text row) ≡ row))
+    ((t : List ℕ) → length t ≤ 64 → list_all printable t ≡ true → (notice_lawful (row_of t) ≡ true) × (text (row_of t) ≡ t))
+    × ((row : List ℕ) → notice_lawful row ≡ true → (length (text row) ≤ 64) × (list_all printable (text row) ≡ true) × (row_of (text row) ≡ row))
 
 -- a text and the text with the byte of an entry put in or taken out: what stands before the place and after it stays
 abbrev pub Edits : NoticeEntry → List ℕ → List ℕ → Type 0

@@ -1,11 +1,8 @@
 pub mod Bytes
 pub mod Examples
 pub mod Laws
-pub mod Moves
 pub mod Notices
 pub mod Texts
 pub mod NoticesLemmas
-pub mod MovesLemmas
 pub mod Packing
 pub mod Rows
-pub mod Clean

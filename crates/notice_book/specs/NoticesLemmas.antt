@@ -1,7 +1,8 @@
 -- Rows and texts are one, and the notice's rule keeps rows lawful. Assumes nothing.
 use Rattle.std.specs.Prelude.{◌≡◌, ℕ, zero, suc, ◌-◌, ◌<◌, ◌≤◌, Bool, true, List, [], ◌∷◌, ◌++◌, length, take, drop, replicate, Ok, Err, Result, ◌==◌, nat_le, nat_lt, slice_index, refl}
 use Rattle.std.proofs.Common.{sym, ap, subst, ◌∙◌, arith, lit≤, length-append, length-drop, drop-cons}
-use Rattle.std.specs.List.{AllByRecursion}
+use Rattle.std.specs.List.{AllByRecursion, list_all}
+use Rattle.std.proofs.lemmas.List.Folds.{list_all-append}
 use Rattle.std.proofs.ByRecursion.{All-append}
 use Rattle.std.proofs.lemmas.List.{drop_at, length-take-le, take-append-drop, take_at, length-replicate}
 use Rattle.std.proofs.lemmas.Bool.{and_from, and_parts, cond_both, eq-eqb, eqb-false, eqb-true, le-leb, leb-true, ltb-false, ltb-true}
@@ -9,40 +10,31 @@ use Rattle.book.specs.Numbers.{by_fault_ok, fault_le}
 use Rattle.book.specs.Faults.{by_fault}
 use Rattle.book.specs.Kinds.{Kept, Sound}
 use Rattle.book.specs.declared.fault.Fault.{Fault}
-use Rattle.notice_book.specs.Bytes.{blank, bytes_of, every, notice_lawful, printable, row_of, text, words_of}
+use Rattle.notice_book.specs.Bytes.{blank, bytes_of, notice_lawful, printable, row_of, text, words_of}
 use Rattle.notice_book.specs.Examples.{WorkedExamples}
 use Rattle.notice_book.specs.Laws.{AcceptedEntriesEdit, Edits, RowsAreTexts}
 use Rattle.notice_book.specs.Notices.{edit, in_row, notice_book, notice_entry, notice_made}
 use Rattle.notice_book.specs.declared.entry.NoticeEntry.{NoticeEntry}
 use Rattle.notice_book.specs.declared.entry.NoticeEntry.TheVariants.{Insert, Delete}
-use Rattle.notice_book.specs.MovesLemmas.{Held, held_length}
 use Rattle.notice_book.specs.Packing.{bytes_words, length_bytes, length_words, words_bytes}
-use Rattle.notice_book.specs.Rows.{clean_held, held_row}
-use Rattle.notice_book.specs.Clean.{clean}
+use Rattle.notice_book.specs.Rows.{row_before_zeros}
 
+-- a test of a list, by its parts
 module _ (test : ℕ → Bool) where
-  every_append : (xs ys : List ℕ) → every test xs ≡ true → every test ys ≡ true → every test (xs ++ ys) ≡ true
-  every_append [] ys p q = q
-  every_append (x ∷ xs) ys p q = let r = and_parts (test x) (every test xs) p in and_from _ _ r.0 (every_append xs ys r.1 q)
+  joined_pass : (xs ys : List ℕ) → list_all test xs ≡ true → list_all test ys ≡ true → list_all test (xs ++ ys) ≡ true
+  joined_pass xs ys p q = list_all-append test xs ys ∙ and_from _ _ p q
 
-  every_take : (n : ℕ) (xs : List ℕ) → every test xs ≡ true → every test (take n xs) ≡ true
-  every_take zero xs p = refl
-  every_take (suc n) [] p = refl
-  every_take (suc n) (x ∷ xs) p = let r = and_parts (test x) (every test xs) p in and_from _ _ r.0 (every_take n xs r.1)
+  parts_pass : (n : ℕ) (xs : List ℕ) → list_all test xs ≡ true → (list_all test (take n xs) ≡ true) × (list_all test (drop n xs) ≡ true)
+  parts_pass n xs h = and_parts _ _ (sym (list_all-append test (take n xs) (drop n xs)) ∙ ap (list_all test) (take-append-drop n xs) ∙ h)
 
-  every_drop : (n : ℕ) (xs : List ℕ) → every test xs ≡ true → every test (drop n xs) ≡ true
-  every_drop zero xs p = p
-  every_drop (suc n) [] p = refl
-  every_drop (suc n) (x ∷ xs) p = every_drop n xs (and_parts (test x) (every test xs) p).1
-
-blanks : (n : ℕ) → every blank (replicate n 0) ≡ true
+blanks : (n : ℕ) → list_all blank (replicate n 0) ≡ true
 blanks zero = refl
 blanks (suc n) = blanks n
 
-small_text : (t : List ℕ) → every printable t ≡ true → AllByRecursion (λ b. b < 256) t
+small_text : (t : List ℕ) → list_all printable t ≡ true → AllByRecursion (λ b. b < 256) t
 small_text [] h = tt
 small_text (b ∷ t) h =
-    let p = and_parts (printable b) (every printable t) h in
+    let p = and_parts (printable b) (list_all printable t) h in
     let q = and_parts (nat_le 32 b) (nat_le b 126) p.0 in
     (omega (arith, leb-true b 126 q.1), small_text t p.1)
 
@@ -51,7 +43,7 @@ small_zeros zero = tt
 small_zeros (suc n) = (omega arith, small_zeros n)
 
 -- the bytes in the row of a text: the text, and zeros behind it
-module _ (t : List ℕ) (short : length t ≤ 64) (fits : every printable t ≡ true) where
+module _ (t : List ℕ) (short : length t ≤ 64) (fits : list_all printable t ≡ true) where
   padded_length : length (t ++ replicate (64 - length t) 0) ≡ 64
   padded_length = length-append t (replicate (64 - length t) 0) ∙ omega (arith, length-replicate {A = ℕ} (64 - length t) 0)
 
@@ -65,26 +57,25 @@ module _ (t : List ℕ) (short : length t ≤ 64) (fits : every printable t ≡ 
   lawful_row =
       and_from _ _ (eq-eqb _ _ (omega (arith, length_words (t ++ replicate (64 - length t) 0), padded_length)))
       (and_from _ _ (le-leb _ _ short)
-      (and_from _ _ (ap (every printable) text_row ∙ fits) (ap (every blank) (ap (drop (length t)) row_bytes ∙ drop_at t _ (length t) refl) ∙ blanks (64 - length t))))
+      (and_from _ _ (ap (list_all printable) text_row ∙ fits) (ap (list_all blank) (ap (drop (length t)) row_bytes ∙ drop_at t _ (length t) refl) ∙ blanks (64 - length t))))
 
 -- what a lawful row is
-lawful_parts : (size : ℕ) (words : List ℕ) → notice_lawful (size ∷ words) ≡ true → (length words ≡ 16) × (size ≤ 64) × (clean size (bytes_of words) ≡ true)
+lawful_parts : (size : ℕ) (words : List ℕ) → notice_lawful (size ∷ words) ≡ true
+    → (length words ≡ 16) × (size ≤ 64) × (list_all printable (take size (bytes_of words)) ≡ true) × (list_all blank (drop size (bytes_of words)) ≡ true)
 lawful_parts size words h =
     let p = and_parts (length words == 16) _ h in
     let q = and_parts (nat_le size 64) _ p.1 in
-    (eqb-true _ _ p.0, leb-true _ _ q.0, q.1)
+    let r = and_parts _ _ q.1 in
+    (eqb-true _ _ p.0, leb-true _ _ q.0, r.0, r.1)
 
-pub row_held : (size : ℕ) (words : List ℕ) → notice_lawful (size ∷ words) ≡ true → Held size (bytes_of words)
-row_held size words h = let p = lawful_parts size words h in clean_held size (bytes_of words) p.1 (omega (arith, length_bytes words)) p.2
-
-pub row_text : (row : List ℕ) → notice_lawful row ≡ true → (length (text row) ≤ 64) × (every printable (text row) ≡ true) × (row_of (text row) ≡ row)
-row_text [] h = let z : ◌≡◌ {A = ℕ} 0 1 = cc in absurd (omega arith)
+pub row_text : (row : List ℕ) → notice_lawful row ≡ true → (length (text row) ≤ 64) × (list_all printable (text row) ≡ true) × (row_of (text row) ≡ row)
+row_text [] h = cc
 row_text (size ∷ words) h =
     let p = lawful_parts size words h in
-    let held = row_held size words h in (
-      omega (arith, held_length held),
-      (and_parts (every printable (take size (bytes_of words))) _ p.2).0,
-      held_row held ∙ ap (λ ws. size ∷ ws) (words_bytes words),
+    let long : length (bytes_of words) ≡ 64 = omega (arith, length_bytes words) in (
+      omega (arith, length-take-le size (bytes_of words)),
+      p.2,
+      row_before_zeros size (bytes_of words) p.1 long p.3 ∙ ap (λ ws. size ∷ ws) (words_bytes words),
     )
 
 pub rows_are_texts : RowsAreTexts
@@ -92,15 +83,15 @@ rows_are_texts = (λ t short fits. (lawful_row t short fits, text_row t short fi
 
 -- what an entry makes of a text
 abbrev Made : NoticeEntry → List ℕ → Result (List ℕ) Fault → Type 0
-Made entry t (Ok new) = (length new ≤ 64) × (every printable new ≡ true) × Edits entry t new
+Made entry t (Ok new) = (length new ≤ 64) × (list_all printable new ≡ true) × Edits entry t new
 Made entry t (Err f) = Unit {0}
 
-edit_made : (t : List ℕ) (entry : NoticeEntry) → length t ≤ 64 → every printable t ≡ true → Made entry t (edit t entry)
+edit_made : (t : List ℕ) (entry : NoticeEntry) → length t ≤ 64 → list_all printable t ≡ true → Made entry t (edit t entry)
 edit_made t (Insert place byte) short fits =
     let P = Made (Insert place byte) t in
     cond_both (length t == 64) _ _ P (λ _. tt) λ room. cond_both (nat_lt (length t) place) _ _ P (λ _. tt) λ within. cond_both (printable byte) _ _ P (λ ok. (
       omega (arith, length-append (take place t) (byte ∷ drop place t), length-take-le place t (ltb-false _ _ within), length-drop place t, eqb-false _ _ room, ltb-false _ _ within),
-      every_append printable (take place t) (byte ∷ drop place t) (every_take printable place t fits) (and_from _ _ ok (every_drop printable place t fits)),
+      joined_pass printable (take place t) (byte ∷ drop place t) (parts_pass printable place t fits).0 (and_from _ _ ok (parts_pass printable place t fits).1),
       (take place t, drop place t, length-take-le place t (ltb-false _ _ within), sym (take-append-drop place t), refl),
     )) (λ _. tt)
 edit_made t (Delete place) short fits =
@@ -108,7 +99,7 @@ edit_made t (Delete place) short fits =
     cond_both (nat_lt place (length t)) _ _ P (λ inside.
     let within = ltb-true _ _ inside in (
       omega (arith, length-append (take place t) (drop (suc place) t), length-take-le place t (omega arith), length-drop (suc place) t),
-      every_append printable (take place t) (drop (suc place) t) (every_take printable place t fits) (every_drop printable (suc place) t fits),
+      joined_pass printable (take place t) (drop (suc place) t) (parts_pass printable place t fits).0 (parts_pass printable (suc place) t fits).1,
       (take place t, slice_index t place, drop (suc place) t, length-take-le place t (omega arith), sym (take-append-drop place t) ∙ ap (λ l. take place t ++ l) (drop-cons t place 0 within), refl),
     )) (λ _. tt)
 
@@ -130,7 +121,7 @@ kept row entry (Ok new) m = m.0
 kept row entry (Err f) m = fault_le f
 
 long : (row : List ℕ) → notice_lawful row ≡ true → length row ≡ 17
-long [] h = let z : ◌≡◌ {A = ℕ} 0 1 = cc in absurd (omega arith)
+long [] h = cc
 long (size ∷ words) h = omega (arith, (lawful_parts size words h).0)
 
 pub notice_sound : Sound notice_book

@@ -25,14 +25,12 @@ pub struct Notice;
 fn write(row: &mut [u32], entry: u32) -> Result<(), Refusal>
     ensures { (result, row.new) ≡ answered row.old (applied notice_book row.old entry) }
 {
-    let Some(text) = Text::read(row) else {
-        return Err(Refusal::UnlawfulRow);
-    };
-    let edited = match NoticeEntry::try_from(entry)? {
+    let mut text = Text::try_from(&*row)?;
+    match NoticeEntry::try_from(entry)? {
         NoticeEntry::Insert { place, byte } => text.insert(place, byte)?,
         NoticeEntry::Delete { place } => text.delete(place)?,
-    };
-    edited.store(row);
+    }
+    text.store(row);
     Ok(())
 }
 

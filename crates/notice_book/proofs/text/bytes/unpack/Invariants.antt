@@ -1,7 +1,7 @@
 -- The bytes so far. Assumes nothing.
-use Rattle.std.proofs.Common.{◌≡◌, ℕ, ◌<◌, length, get_or}
+use Rattle.std.proofs.Common.{◌≡◌, ◌*◌, length, take}
 use Rattle.notice_book.specs.Bytes.{bytes_of}
 use Rattle.notice_book.proofs.text.bytes.unpack.Given as goal
 
-abbrev pub invariant-loop-k : goal.invariant-loop-k
-invariant-loop-k l = (length l.bytes ≡ 64) × ((j : ℕ) → j < l.k → get_or l.bytes j 0 ≡ get_or (bytes_of l.words) j 0)
+abbrev pub invariant-loop-word : goal.invariant-loop-word
+invariant-loop-word l = (l.bytes.items ≡ bytes_of (take l.word-index l.words)) × (length l.bytes.items ≡ 4 * l.word-index)
