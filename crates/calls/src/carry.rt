@@ -17,7 +17,7 @@ fn perform<C: Carrier, K: Kind>(
     call: Call,
     spare: &mut [u32],
 ) -> Result<Event, Refusal>
-    ensures { Performed (whole C.Carrier.lanes K.Kind.book group.old) call.entry spare.old result (whole C.Carrier.lanes K.Kind.book group.new) spare.new }
+    ensures { Performed (whole C.lanes K.book group.old) call.entry spare.old result (whole C.lanes K.book group.new) spare.new }
 {
     match call {
         Call::Open(parents) => group.open(parents),
@@ -35,8 +35,8 @@ pub fn carry_out<C: Carrier, K: Kind>(
     call: Call,
     spare: &mut [u32],
 ) -> Result<Event, Refusal>
-    ensures performed { Performed (whole C.Carrier.lanes K.Kind.book group.old) call.entry spare.old result (whole C.Carrier.lanes K.Kind.book group.new) spare.new }
-    ensures goes { GoesOn (whole C.Carrier.lanes K.Kind.book group.old) (call_of call.entry spare.old) result (whole C.Carrier.lanes K.Kind.book group.new) }
+    ensures performed { Performed (whole C.lanes K.book group.old) call.entry spare.old result (whole C.lanes K.book group.new) spare.new }
+    ensures goes { GoesOn (whole C.lanes K.book group.old) (call_of call.entry spare.old) result (whole C.lanes K.book group.new) }
 {
     perform(group, call, spare)
 }
@@ -47,7 +47,7 @@ fn perform_oldest<C: OldestFirst, K: Kind>(
     call: Call,
     spare: &mut [u32],
 ) -> Result<Event, Refusal>
-    ensures { PerformedOldest (whole C.Carrier.lanes K.Kind.book group.old) call.entry spare.old result (whole C.Carrier.lanes K.Kind.book group.new) spare.new }
+    ensures { PerformedOldest (whole C.lanes K.book group.old) call.entry spare.old result (whole C.lanes K.book group.new) spare.new }
 {
     match call {
         Call::Deliver(lane) => group.deliver_oldest(lane, spare),
@@ -61,8 +61,8 @@ pub fn carry_out_oldest<C: OldestFirst, K: Kind>(
     call: Call,
     spare: &mut [u32],
 ) -> Result<Event, Refusal>
-    ensures performed { PerformedOldest (whole C.Carrier.lanes K.Kind.book group.old) call.entry spare.old result (whole C.Carrier.lanes K.Kind.book group.new) spare.new }
-    ensures goes { GoesOn (whole C.Carrier.lanes K.Kind.book group.old) (oldest_call_of call.entry spare.old) result (whole C.Carrier.lanes K.Kind.book group.new) }
+    ensures performed { PerformedOldest (whole C.lanes K.book group.old) call.entry spare.old result (whole C.lanes K.book group.new) spare.new }
+    ensures goes { GoesOn (whole C.lanes K.book group.old) (oldest_call_of call.entry spare.old) result (whole C.lanes K.book group.new) }
 {
     perform_oldest(group, call, spare)
 }

@@ -17,7 +17,7 @@ pub fn run<C: Carrier, K: Kind>(
     calls: &[Call],
     spare: &mut [u32],
 ) -> Group<C, K>
-    ensures { ReachedBy (length spare.old) calls.now (whole C.Carrier.lanes K.Kind.book result) }
+    ensures { ReachedBy (length spare.old) calls.now (whole C.lanes K.book result) }
 {
     let mut group = Group::new(carrier, kind);
     for call in calls {

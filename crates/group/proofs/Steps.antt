@@ -1,13 +1,10 @@
 -- A panel's step and what it leaves to do are the rule of the delivery; the ends of a lane; a taken parcel. Assumes nothing.
-use Rattle.std.proofs.Common.{◌≡◌, ℕ, Bool, true, false, cond, not, eqb, ltb, leb, List, length, take, drop, Some, None, Ok, Err, Option, Result, sym, refl, ap, ◌∙◌, subst}
+use Rattle.std.proofs.Common.{◌≡◌, ℕ, ◌<◌, Bool, true, false, cond, not, eqb, leb, List, length, take, drop, Some, None, Ok, Err, Result, sym, refl, ap, ◌∙◌, subst}
 use Rattle.std.proofs.lemmas.List.{take_at}
-use Rattle.std.proofs.lemmas.Bool.{ltb-true, ltb-false, lt-leb, le-leb}
-use Rattle.carrier.specs.Parcels.{Lanes, Gave, TakenAt, waiting, take_refusal, taken, laid}
+use Rattle.carrier.specs.Parcels.{Lanes, TakenAt, waiting, take_refusal, taken, laid}
 use Rattle.carrier.specs.declared.traits.Received.{Received}
-use Rattle.tree.specs.Tree.{lawful_tree, lane_count, lane_source, lane_target}
-use Rattle.tree.specs.Answers.{parents, ends_answer, first_step_answer}
-use Rattle.tree.specs.declared.cables.Tree.{Tree}
-use Rattle.tree.proofs.Facts.{parents_lawful, lane_ends_exist}
+use Rattle.tree.specs.Tree.{lane_count, lane_source, lane_target}
+use Rattle.tree.specs.Answers.{first_step_answer}
 use Rattle.words.specs.Messages.{message_of}
 use Rattle.words.specs.declared.event.Event.TheVariants.{Landed}
 use Rattle.words.specs.declared.message.Message.{Message}
@@ -16,11 +13,12 @@ use Rattle.words.specs.declared.refusal.Refusal.{Refusal}
 use Rattle.words.specs.declared.refusal.Refusal.TheVariants.{NotOpen, NoSuchLane}
 use Rattle.arrow.specs.declared.state.State.{State}
 use Rattle.arrow.specs.declared.state.State.TheVariants.{Idle, Waiting, Holding, Resting}
-use Rattle.arrow.specs.World.{Panel, World, is_open, panel_at}
+use Rattle.arrow.specs.World.{Panel, World, panel_at}
 use Rattle.arrow.specs.Rules.{Outcome, refuse, with_part, with_lanes, with_panel, with_counts, count_book, send, turned, hand_over, lands, passes_on, gets_book, moves_on, meets, by_rest, followed, deliver_call, deliver_refusal, delivers, by_refusal, spare_after, parcel_at, about, with_row}
 use Rattle.panel.specs.declared.action.Action.{Action}
 use Rattle.panel.specs.declared.action.Action.TheVariants.{Pass, Hold, MoveOn}
 use Rattle.panel.specs.Steps.{left_empty, landing, plain_step}
+use Rattle.group.specs.declared.delivering.Ends.{Ends}
 use Rattle.group.specs.Parts.{by_action, EndsTold, Arrived}
 
 module _ (w : World) (from u : ℕ) (body : List ℕ) where
@@ -79,74 +77,37 @@ module _ (w : World) (from u : ℕ) (body : List ℕ) where
       ∙ ap (λ (s : Action × Panel). by_action w from u before.row body s.0 s.1) (sym step)
       ∙ rest
 
-module _ (w : World) (lane : ℕ) where
-  no_lane : (size : ℕ) → is_open w ≡ true → leb (lane_count w.tree) lane ≡ true → deliver_refusal w lane size ≡ Some NoSuchLane
-  no_lane size o l =
-      ap (λ b. cond (not b) (Some NotOpen) (cond (leb (lane_count w.tree) lane) (Some NoSuchLane) (take_refusal w.lanes lane size))) o
-      ∙ ap (λ b. cond b (Some NoSuchLane) (take_refusal w.lanes lane size)) l
-
-  pub by_take : (size : ℕ) (d : Option Refusal) → is_open w ≡ true → leb (lane_count w.tree) lane ≡ false → take_refusal w.lanes lane size ≡ d
-      → deliver_refusal w lane size ≡ d
-  by_take size d o l t =
-      ap (λ b. cond (not b) (Some NotOpen) (cond (leb (lane_count w.tree) lane) (Some NoSuchLane) (take_refusal w.lanes lane size))) o
-      ∙ ap (λ b. cond b (Some NoSuchLane) (take_refusal w.lanes lane size)) l
-      ∙ t
-
-  -- the ends of a lane
-  pub ends_told : (tree : Tree) (r : Result (ℕ × ℕ) Refusal) → is_open w ≡ true → parents tree ≡ w.tree → r ≡ ends_answer (parents tree) lane
-      → EndsTold w lane r
-  ends_told tree r o p e =
-      subst (EndsTold w lane) (sym (e ∙ ap (λ ps. ends_answer ps lane) p)) (go (ltb lane (lane_count w.tree)) refl)
-    where
-      lawful : lawful_tree w.tree ≡ true
-      lawful = subst (λ ps. lawful_tree ps ≡ true) p (parents_lawful tree)
-
-      go : (b : Bool) → ltb lane (lane_count w.tree) ≡ b
-          → EndsTold w lane (cond b (Ok (lane_source w.tree lane, lane_target w.tree lane)) (Err NoSuchLane))
-      go true t = (
-        o,
-        lt-leb (lane_count w.tree) lane (ltb-true lane (lane_count w.tree) t),
-        refl,
-        lt-leb (length w.tree) (lane_target w.tree lane) (lane_ends_exist w.tree lawful lane (ltb-true lane (lane_count w.tree) t)).1,
-      )
-      go false t = λ size. no_lane size o (le-leb (lane_count w.tree) lane (ltb-false lane (lane_count w.tree) t))
-
-  -- a refused delivery
-  pub refused : (spare : List ℕ) (place : ℕ) (e : Refusal) → deliver_refusal w lane (length spare) ≡ Some e
-      → (deliver_call w lane (length spare) place ≡ refuse w e) × (spare ≡ spare_after w lane spare place)
-  refused spare place e h = (
-    ap (λ d. by_refusal d (refuse w) (delivers w lane place)) h,
-    sym (ap (λ d. by_refusal d (λ _. spare) (laid (parcel_at w lane place).body spare)) h),
-  )
-
-  -- a parcel that was taken, and arrived
-  pub taken_arrived : (spare spare' : List ℕ) (place : ℕ) (got : Received) (out : Outcome)
-      → is_open w ≡ true → leb (lane_count w.tree) lane ≡ false → take_refusal w.lanes lane (length spare) ≡ None
-      → Gave place (waiting w.lanes lane) spare got spare'
-      → Arrived (with_lanes w (taken w.lanes lane place)) (lane_source w.tree lane) (lane_target w.tree lane) got spare' out
-      → (deliver_call w lane (length spare) place ≡ out) × (spare' ≡ spare_after w lane spare place)
-  taken_arrived spare spare' place got out o l t gave arrived =
-      let w' = with_lanes w (taken w.lanes lane place) in
+module _ (w : World) (lane : ℕ) (spare spare' : List ℕ) (place : ℕ) (got : Received) (out : Outcome) (ends : Ends) (lanes : Lanes) where
+  arrived : EndsTold w lane (Ok ends) → TakenAt place w.lanes lane spare (Ok got) spare' lanes
+      → Arrived (with_lanes w lanes) ends.from ends.at got spare' out
+      → (place < length (waiting w.lanes lane)) × (deliver_call w lane (length spare) place ≡ out) × (spare' ≡ spare_after w lane spare place)
+  arrived told took came =
       let from = lane_source w.tree lane in
       let at = lane_target w.tree lane in
+      let after = with_lanes w (taken w.lanes lane place) in
       let body = (parcel_at w lane place).body in
-      let none : deliver_refusal w lane (length spare) ≡ None = by_take (length spare) None o l t in
-      let front : take got.size spare' ≡ body = ap (take got.size) gave.space_is ∙ take_at body (drop (length body) spare) got.size (sym gave.size_is) in (
+      let front : take got.size spare' ≡ body = ap (take got.size) took.1.space_is ∙ take_at body (drop (length body) spare) got.size (sym took.1.size_is) in
+      let none : deliver_refusal w lane (length spare) ≡ None =
+      ap (λ b. cond (not b) (Some NotOpen) (cond (leb (lane_count w.tree) lane) (Some NoSuchLane) (take_refusal w.lanes lane (length spare)))) told.0
+      ∙ ap (λ b. cond b (Some NoSuchLane) (take_refusal w.lanes lane (length spare))) told.1
+      ∙ took.0 in
+      let by_ends : Arrived (with_lanes w lanes) from at got spare' out =
+      subst (λ (u : ℕ). Arrived (with_lanes w lanes) from u got spare' out) told.3
+      (subst (λ (u : ℕ). Arrived (with_lanes w lanes) u ends.at got spare' out) told.2 came) in
+      let by_lanes : Arrived after from at got spare' out = subst (λ (l : Lanes). Arrived (with_lanes w l) from at got spare' out) took.2 by_ends in (
+        took.1.within,
         ap (λ d. by_refusal d (refuse w) (delivers w lane place)) none
-            ∙ ap (λ h. with_part (message_of h) w' (meets w' from at body)) (sym gave.head_is)
-            ∙ ap (λ b. with_part (message_of got.head) w' (meets w' from at b)) (sym front)
-            ∙ arrived,
-        gave.space_is ∙ sym (ap (λ d. by_refusal d (λ _. spare) (laid body spare)) none),
+            ∙ ap (λ h. with_part (message_of h) after (meets after from at body)) (sym took.1.head_is)
+            ∙ ap (λ b. with_part (message_of got.head) after (meets after from at b)) (sym front)
+            ∙ by_lanes,
+        took.1.space_is ∙ sym (ap (λ d. by_refusal d (λ _. spare) (laid body spare)) none),
       )
 
-  -- the same from the ends and the lanes that the parts told
-  pub arrived_so : (spare spare' : List ℕ) (place : ℕ) (got : Received) (out : Outcome) (ends : ℕ × ℕ) (lanes : Lanes)
-      → EndsTold w lane (Ok ends) → TakenAt place w.lanes lane spare (Ok got) spare' lanes
-      → Arrived (with_lanes w lanes) ends.0 ends.1 got spare' out
-      → (deliver_call w lane (length spare) place ≡ out) × (spare' ≡ spare_after w lane spare place)
-  arrived_so spare spare' place got out ends lanes told took arrived =
-      let w' = with_lanes w (taken w.lanes lane place) in
-      let at_ends : Arrived (with_lanes w lanes) (lane_source w.tree lane) (lane_target w.tree lane) got spare' out =
-      subst (λ (e : ℕ × ℕ). Arrived (with_lanes w lanes) e.0 e.1 got spare' out) told.2 arrived in
-      taken_arrived spare spare' place got out told.0 told.1 took.0 took.1
-      (subst (λ (l : Lanes). Arrived (with_lanes w l) (lane_source w.tree lane) (lane_target w.tree lane) got spare' out) took.2 at_ends)
+-- a parcel that was taken, and arrived: the ends were told of the group, and the rest of its fields
+pub arrived_so : (fields w : World) → fields ≡ w → (lane : ℕ) (spare spare' : List ℕ) (place : ℕ) (got : Received) (out : Outcome) (ends : Ends)
+    (lanes : Lanes) → EndsTold w lane (Ok ends) → TakenAt place fields.lanes lane spare (Ok got) spare' lanes
+    → Arrived (with_lanes fields lanes) ends.from ends.at got spare' out
+    → (place < length (waiting w.lanes lane)) × (deliver_call w lane (length spare) place ≡ out) × (spare' ≡ spare_after w lane spare place)
+arrived_so fields w same lane spare spare' place got out ends lanes told took came =
+    subst (λ (v : World). (place < length (waiting v.lanes lane)) × (deliver_call v lane (length spare) place ≡ out) × (spare' ≡ spare_after v lane spare place)) same
+    (arrived fields lane spare spare' place got out ends lanes (subst (λ (v : World). EndsTold v lane (Ok ends)) (sym same) told) took came)

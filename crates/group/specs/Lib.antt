@@ -1,2 +1,4 @@
+pub mod Seen
+pub mod Memory
 pub mod Whole
 pub mod Parts

@@ -1,7 +1,9 @@
 -- What the parts that the calls are made of answer and leave, over the world of the group. Assumes nothing.
-use Rattle.std.specs.Prelude.{◌≡◌, ℕ, true, false, List, [], length, take, Some, None, Ok, Err, Result, nat_le}
+use Rattle.std.specs.Prelude.{◌≡◌, ℕ, true, false, List, [], length, map, take, Some, None, Ok, Err, Result, nat_le}
+use Rattle.std.specs.Borrow.{Bor}
 use Rattle.carrier.specs.Parcels.{Lanes}
-use Rattle.tree.specs.declared.cables.Tree.{Tree}
+use Rattle.group.specs.declared.memory.Panels.{Panels}
+use Rattle.group.specs.declared.delivering.Ends.{Ends}
 use Rattle.tree.specs.Answers.{parents}
 use Rattle.words.specs.declared.message.Message.{Message}
 use Rattle.words.specs.declared.refusal.Refusal.{Refusal}
@@ -21,10 +23,10 @@ use Rattle.arrow.specs.Rules.{Outcome, refuse, on_panel, on_holder, send, with_l
 use Rattle.panel.specs.declared.record.Panel.{Panel as PanelRecord}
 use Rattle.panel.specs.Steps.{panel_of}
 
--- the tree of an open group, or NotOpen
-abbrev pub TreeTold : World → Result Tree Refusal → Type 0
-TreeTold w (Ok t) = (is_open w ≡ true) × (parents t ≡ w.tree)
-TreeTold w (Err e) = (is_open w ≡ false) × (e ≡ NotOpen)
+-- what an open group has, or NotOpen
+abbrev pub OpenTold : World → Result (Bor Panels) Refusal → Type 0
+OpenTold w (Ok panels) = (is_open w ≡ true) × (parents panels.now.tree ≡ w.tree) × (map panel_of panels.now.each.items ≡ w.panels)
+OpenTold w (Err e) = (is_open w ≡ false) × (e ≡ NotOpen)
 
 -- a panel, or why every call on it and every read of it is refused
 abbrev pub PanelTold : World → ℕ → Result PanelRecord Refusal → Type 0
@@ -59,10 +61,9 @@ Handed w u a row after (Ok _) w' = handed w u a row after ≡ Ok w'
 Handed w u a row after (Err e) w' = (handed w u a row after ≡ Err e) × (w' ≡ w)
 
 -- the ends of a lane, or why every delivery on it is refused
-abbrev pub EndsTold : World → ℕ → Result (ℕ × ℕ) Refusal → Type 0
+abbrev pub EndsTold : World → ℕ → Result Ends Refusal → Type 0
 EndsTold w lane (Ok ends) =
-    (is_open w ≡ true) × (nat_le (lane_count w.tree) lane ≡ false) × (ends ≡ (lane_source w.tree lane, lane_target w.tree lane))
-    × (nat_le (length w.tree) (lane_target w.tree lane) ≡ false)
+    (is_open w ≡ true) × (nat_le (lane_count w.tree) lane ≡ false) × (ends.from ≡ lane_source w.tree lane) × (ends.at ≡ lane_target w.tree lane)
 EndsTold w lane (Err e) = (size : ℕ) → deliver_refusal w lane size ≡ Some e
 
 -- a parcel that was taken arrives: its word is read, and the panel at the lane's end meets it

@@ -5,6 +5,7 @@ ghost use Rattle.arrow.specs.Rules.{request_call};
 ghost use Rattle.group.specs.Whole.{whole};
 
 use crate::memory::Group;
+use crate::parts::count;
 use arrow::limit::REQUEST_LIMIT;
 use arrow::state::State;
 use book::kind::Kind;
@@ -18,12 +19,12 @@ impl<C: Carrier, K: Kind> Group<C, K> {
     // A panel that rests holds; an idle one sends its find word along its arrow, which then points to itself, and waits.
     // The first that applies: NotOpen, NoSuchPanel, Engaged where it waits or holds, RequestLimit.
     pub fn request(&mut self, v: usize) -> Result<Event, Refusal>
-        ensures { request_call (whole C.Carrier.lanes K.Kind.book self.old) v ≡ (result, whole C.Carrier.lanes K.Kind.book self.new) }
+        ensures { request_call (whole C.lanes K.book self.old) v ≡ (result, whole C.lanes K.book self.new) }
     {
         let panel = self.panel(v)?;
         match panel.state {
             State::Waiting | State::Holding => Err(Refusal::Engaged),
-            _ if self.core.counts.requests >= REQUEST_LIMIT => Err(Refusal::RequestLimit),
+            _ if self.counts.requests >= REQUEST_LIMIT => Err(Refusal::RequestLimit),
             State::Resting => {
                 self.store(
                     v,
@@ -32,8 +33,8 @@ impl<C: Carrier, K: Kind> Group<C, K> {
                         ..panel
                     },
                 );
-                self.core.counts.requests = self.core.counts.requests.saturating_add(1);
-                self.core.counts.grants = self.core.counts.grants.saturating_add(1);
+                count(&mut self.counts.requests);
+                count(&mut self.counts.grants);
                 Ok(Event::Granted { panel: v, from: v })
             }
             State::Idle => {
@@ -47,8 +48,8 @@ impl<C: Carrier, K: Kind> Group<C, K> {
                         ..panel
                     },
                 );
-                self.core.counts.requests = self.core.counts.requests.saturating_add(1);
-                self.core.counts.finds = self.core.counts.finds.saturating_add(1);
+                count(&mut self.counts.requests);
+                count(&mut self.counts.finds);
                 Ok(Event::Asked { panel: v, to })
             }
         }

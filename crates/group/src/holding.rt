@@ -1,14 +1,14 @@
 // Calls on a panel that has the book: release, write and read; and the book on its way to another panel.
 // Assumes nothing.
-ghost use Rattle.std.specs.Prelude.{◌≡◌, true, false, length, nat_le, nat_lt};
+ghost use Rattle.std.specs.Prelude.{◌≡◌};
 ghost use Rattle.arrow.specs.Rules.{release_call, write_call, read_answer};
-ghost use Rattle.arrow.specs.World.{panel_at};
 ghost use Rattle.book.specs.Kinds.{answered};
 ghost use Rattle.group.specs.Parts.{Handed};
-ghost use Rattle.group.specs.Whole.{tree_of, whole};
+ghost use Rattle.group.specs.Whole.{whole};
 ghost use Rattle.panel.specs.Steps.{panel_of, row_words};
 
 use crate::memory::Group;
+use crate::parts::count;
 use arrow::state::State;
 use book::kind::Kind;
 use carrier::traits::Carrier;
@@ -27,20 +27,18 @@ impl<C: Carrier, K: Kind> Group<C, K> {
         row: &Row,
         after: Panel,
     ) -> Result<(), Refusal>
-        requires opens { nat_lt 0 (length (tree_of self.old.core.tree)) ≡ true }
-        requires exists { nat_le (length (tree_of self.old.core.tree)) from ≡ false }
-        ensures { Handed (whole C.Carrier.lanes K.Kind.book self.old) from to (row_words row.now) (panel_of after) result (whole C.Carrier.lanes K.Kind.book self.new) }
+        ensures { Handed (whole C.lanes K.book self.old) from to (row_words row.now) (panel_of after) result (whole C.lanes K.book self.new) }
     {
-        let step = self.tree()?.first_step(from, to)?;
+        let step = self.first_step(from, to)?;
         self.send(from, step, Message::Book { addressee: to }, row.words())?;
         self.store(from, after);
-        self.core.counts.books = self.core.counts.books.saturating_add(1);
+        count(&mut self.counts.books);
         Ok(())
     }
 
     // Without a follower the panel rests; else the book goes to the follower. The first that applies: NotOpen, NoSuchPanel, NotHolding.
     pub fn release(&mut self, v: usize) -> Result<Event, Refusal>
-        ensures { release_call (whole C.Carrier.lanes K.Kind.book self.old) v ≡ (result, whole C.Carrier.lanes K.Kind.book self.new) }
+        ensures { release_call (whole C.lanes K.book self.old) v ≡ (result, whole C.lanes K.book self.new) }
     {
         let panel = self.holder(v)?;
         let event = match panel.follower {
@@ -62,14 +60,14 @@ impl<C: Carrier, K: Kind> Group<C, K> {
                 }
             }
         };
-        self.core.counts.releases = self.core.counts.releases.saturating_add(1);
+        count(&mut self.counts.releases);
         Ok(event)
     }
 
     // The row of a panel that holds becomes what the kind makes of it and an entry. The first that applies: NotOpen, NoSuchPanel,
     // NotHolding, then the kind's own.
     pub fn write(&mut self, v: usize, entry: u32) -> Result<Event, Refusal>
-        ensures { write_call (whole C.Carrier.lanes K.Kind.book self.old) v entry ≡ (result, whole C.Carrier.lanes K.Kind.book self.new) }
+        ensures { write_call (whole C.lanes K.book self.old) v entry ≡ (result, whole C.lanes K.book self.new) }
     {
         let panel = self.holder(v)?;
         let mut row = panel.row;
@@ -81,13 +79,12 @@ impl<C: Carrier, K: Kind> Group<C, K> {
     // Copies the row of a panel that holds or rests into the first words of a space. The first that applies: NotOpen, NoSuchPanel, NoBook,
     // SpaceTooShort.
     pub fn read(&self, v: usize, space: &mut [u32]) -> Result<(), Refusal>
-        ensures { (result, space.new) ≡ answered space.old (read_answer (whole C.Carrier.lanes K.Kind.book self.now) v space.old) }
+        ensures { (result, space.new) ≡ answered space.old (read_answer (whole C.lanes K.book self.now) v space.old) }
     {
         let panel = self.panel(v)?;
         match panel.state {
-            State::Idle | State::Waiting => return Err(Refusal::NoBook),
-            State::Holding | State::Resting => {}
+            State::Idle | State::Waiting => Err(Refusal::NoBook),
+            State::Holding | State::Resting => panel.row.lay(space),
         }
-        panel.row.lay(space)
     }
 }

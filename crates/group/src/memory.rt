@@ -1,19 +1,20 @@
 // How a group is held in memory of fixed size.
 // Assumes nothing.
 ghost use Rattle.std.specs.Prelude.{◌≡◌, length};
-ghost use Rattle.tree.specs.Tree.{most_panels};
+ghost use Rattle.tree.specs.Answers.{parents};
 
+use arrayvec::ArrayVec;
 use arrow::counts::Counts;
 use panel::record::Panel;
+use std::marker::Model;
 use tree::cables::{MOST_PANELS, Tree};
 
-// All of a group but its carrier and its kind: the tree once it is open, its panels, of which as many count as the tree has, and counts.
-#[derive(Clone, Copy)]
-pub struct Core {
-    pub(crate) tree: Option<Tree>,
-    pub(crate) panels: [Panel; MOST_PANELS],
-    pub(crate) counts: Counts,
-    ghost long: { length panels ≡ most_panels },
+// What an open group has: its tree, and a panel for each place of the tree.
+#[derive(Drop)]
+pub struct Panels {
+    pub(crate) tree: Tree,
+    pub(crate) each: ArrayVec<Panel, MOST_PANELS>,
+    ghost as_many: { length each.items ≡ length (parents tree) },
 }
 
 // A group: panels on a tree of cable that share one book, over a carrier and a kind of book. Nothing else changes the carrier.
@@ -21,5 +22,22 @@ pub struct Core {
 pub struct Group<C, K> {
     pub(crate) carrier: C,
     pub(crate) kind: K,
-    pub(crate) core: Core,
+    pub(crate) counts: Counts,
+    pub(crate) panels: Option<Panels>,
+}
+
+impl<C, K> Model for Group<C, K> {
+    ghost use Rattle.group.specs.Seen.{Seen};
+
+    ghost Value = { Seen C K };
+
+    ghost use Rattle.group.specs.Memory.{tree_of, panels_of};
+
+    ghost view = { λ g. record {
+      carrier = g.carrier;
+      kind = g.kind;
+      tree = tree_of g.panels;
+      panels = panels_of g.panels;
+      counts = g.counts;
+    } };
 }

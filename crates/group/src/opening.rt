@@ -1,14 +1,14 @@
 // Open: the tree, and the panels as they stand at first.
 // Assumes nothing.
-ghost use Rattle.std.specs.Prelude.{◌≡◌, map, length, take};
+ghost use Rattle.std.specs.Prelude.{◌≡◌, map};
 ghost use Rattle.arrow.specs.Rules.{open_call, opened_world};
 ghost use Rattle.group.specs.Parts.{idle_with};
 ghost use Rattle.group.specs.Whole.{whole};
 ghost use Rattle.panel.specs.Steps.{panel_of, row_words};
 ghost use Rattle.tree.specs.Answers.{parents};
-ghost use Rattle.tree.specs.Tree.{most_panels};
 
-use crate::memory::{Core, Group};
+use crate::memory::{Group, Panels};
+use arrayvec::ArrayVec;
 use arrow::state::State;
 use book::kind::Kind;
 use carrier::traits::{Carrier, any_waiting};
@@ -19,22 +19,17 @@ use words::event::Event;
 use words::refusal::Refusal;
 
 // Idle panels with a row, whose arrows point to their parents.
-fn idle_panels(tree: &Tree, row: Row) -> [Panel; MOST_PANELS]
-    ensures front { map panel_of (take (length (parents tree.now)) result) ≡ map (idle_with (row_words row)) (parents tree.now) }
-    ensures long { length result ≡ most_panels }
+fn idle_panels(tree: &Tree, row: Row) -> ArrayVec<Panel, MOST_PANELS>
+    ensures { map panel_of result.items ≡ map (idle_with (row_words row)) (parents tree.now) }
 {
-    let idle = Panel {
-        arrow: 0,
-        state: State::Idle,
-        follower: None,
-        row,
-    };
-    let mut panels = [idle; MOST_PANELS];
-    for v in 0..tree.panels() {
-        panels[v] = Panel {
-            arrow: tree.parent(v),
-            ..idle
-        };
+    let mut panels = ArrayVec::new();
+    for arrow in tree.parents() {
+        panels.push(Panel {
+            arrow: *arrow,
+            state: State::Idle,
+            follower: None,
+            row,
+        });
     }
     panels
 }
@@ -42,30 +37,29 @@ fn idle_panels(tree: &Tree, row: Row) -> [Panel; MOST_PANELS]
 impl<C: Carrier, K: Kind> Group<C, K> {
     // The panels as they stand at first, over a tree, and panel 0 with a row.
     fn settle(&mut self, tree: Tree, row: Row)
-        requires { row_words row ≡ (K.Kind.book self.old.kind).opening }
-        ensures { whole C.Carrier.lanes K.Kind.book self.new ≡ opened_world (whole C.Carrier.lanes K.Kind.book self.old) (parents tree) }
+        requires { row_words row ≡ (K.book self.old.kind).opening }
+        ensures { whole C.lanes K.book self.new ≡ opened_world (whole C.lanes K.book self.old) (parents tree) }
     {
-        let zeros = row.cleared();
-        let mut panels = idle_panels(&tree, zeros);
-        panels[0] = Panel {
-            arrow: 0,
-            state: State::Resting,
-            follower: None,
-            row,
-        };
-        self.core = Core {
-            tree: Some(tree),
-            panels,
-            counts: self.core.counts,
-        };
+        let each = idle_panels(&tree, row.cleared());
+        let mut panels = Panels { tree, each };
+        panels.store(
+            0,
+            Panel {
+                arrow: 0,
+                state: State::Resting,
+                follower: None,
+                row,
+            },
+        );
+        self.panels = Some(panels);
     }
 
     // Opens the group over a lent list of parents: panel 0 rests with the opening row; each other panel is idle, its arrow points to its
     // parent, and its row is zeros. The first that applies: AlreadyOpen, UnlawfulTree, TooFewLanes, ParcelWaiting on any lane.
     pub fn open(&mut self, list: &[usize]) -> Result<Event, Refusal>
-        ensures { open_call (whole C.Carrier.lanes K.Kind.book self.old) list.now ≡ (result, whole C.Carrier.lanes K.Kind.book self.new) }
+        ensures { open_call (whole C.lanes K.book self.old) list.now ≡ (result, whole C.lanes K.book self.new) }
     {
-        if let Ok(_) = self.tree() {
+        if self.is_open() {
             return Err(Refusal::AlreadyOpen);
         }
         let tree = Tree::new(list)?;

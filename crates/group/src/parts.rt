@@ -1,101 +1,130 @@
-// What the calls on a group are made of: its tree, a panel, a panel that holds, a panel stored, a message sent.
+// What the calls on a group are made of: what it has once it is open, a panel, a panel that holds, a panel stored, a message sent.
 // Assumes nothing.
-ghost use Rattle.std.specs.Prelude.{◌≡◌, true, false, [], length, nat_le, nat_lt};
-ghost use Rattle.arrow.specs.Rules.{with_panel};
+ghost use Rattle.std.specs.Prelude.{◌≡◌, ◌≤◌, [], length, map};
+ghost use Rattle.arrow.specs.Rules.{more, with_panel};
 ghost use Rattle.arrow.specs.Runs.{Run};
 ghost use Rattle.arrow.specs.World.{new_world, panel_at};
-ghost use Rattle.group.specs.Parts.{TreeTold, PanelTold, HolderTold, SentOut};
-ghost use Rattle.group.specs.Whole.{tree_of, whole};
+ghost use Rattle.group.specs.Parts.{OpenTold, PanelTold, HolderTold, SentOut};
+ghost use Rattle.group.specs.Whole.{whole};
 ghost use Rattle.panel.specs.Steps.{panel_of};
+ghost use Rattle.std.specs.Prelude.{slice_set};
+ghost use Rattle.tree.specs.Answers.{first_step_answer, lane_answer};
+ghost use Rattle.tree.specs.Tree.{most_panels};
 
-use crate::memory::{Core, Group};
+use crate::memory::{Group, Panels};
 use arrow::counts::Counts;
 use arrow::state::State;
 use book::kind::Kind;
 use carrier::traits::Carrier;
 use panel::record::Panel;
-use panel::row::Row;
-use tree::cables::{MOST_PANELS, Tree};
 use words::message::Message;
 use words::refusal::Refusal;
 
-// Nothing counted.
-const NO_COUNTS: Counts = Counts {
-    requests: 0,
-    finds: 0,
-    books: 0,
-    grants: 0,
-    releases: 0,
-};
+// One more counted, up to the end of the counter.
+pub(crate) fn count(counter: &mut u32)
+    ensures { counter.new ≡ more counter.old }
+{
+    *counter = counter.saturating_add(1);
+}
+
+impl Panels {
+    // Stores a panel at its place.
+    pub(crate) fn store(&mut self, v: usize, panel: Panel)
+        ensures tree { self.new.tree ≡ self.old.tree }
+        ensures each { self.new.each.items ≡ slice_set self.old.each.items v panel }
+    {
+        if let Some(place) = self.each.get_mut(v) {
+            *place = panel;
+        }
+    }
+}
 
 impl<C: Carrier, K: Kind> Group<C, K> {
     // A group that is not open, over a carrier and a kind of book.
     pub fn new(carrier: C, kind: K) -> Group<C, K>
-        ensures world { whole C.Carrier.lanes K.Kind.book result ≡ new_world (K.Kind.book kind) (C.Carrier.lanes carrier) }
-        ensures begins { Run [] (whole C.Carrier.lanes K.Kind.book result) }
+        ensures world { whole C.lanes K.book result ≡ new_world (K.book kind) (C.lanes carrier) }
+        ensures begins { Run [] (whole C.lanes K.book result) }
     {
-        let panel = Panel {
-            arrow: 0,
-            state: State::Idle,
-            follower: None,
-            row: Row::empty(),
-        };
         Group {
             carrier,
             kind,
-            core: Core {
-                tree: None,
-                panels: [panel; MOST_PANELS],
-                counts: NO_COUNTS,
-            },
+            counts: Counts::default(),
+            panels: None,
         }
     }
 
-    // The tree, or NotOpen.
-    pub(crate) fn tree(&self) -> Result<Tree, Refusal>
-        ensures { TreeTold (whole C.Carrier.lanes K.Kind.book self.now) result }
+    // What it has once it is open, or NotOpen.
+    pub(crate) fn opened(&self) -> Result<&Panels, Refusal>
+        ensures { OpenTold (whole C.lanes K.book self.now) result }
     {
-        match self.core.tree {
-            Some(tree) => Ok(tree),
-            None => Err(Refusal::NotOpen),
+        self.panels.as_ref().ok_or(Refusal::NotOpen)
+    }
+
+    // The panels, none while the group is not open.
+    pub(crate) fn each(&self) -> &[Panel]
+        ensures same { map panel_of result.now ≡ self.now.panels }
+        ensures as_many { length result.now ≡ length self.now.tree }
+        ensures few { length result.now ≤ most_panels }
+    {
+        match &self.panels {
+            Some(panels) => panels.each.as_slice(),
+            None => &[],
         }
     }
 
     // A panel as it is now: NotOpen, or NoSuchPanel.
     pub fn panel(&self, v: usize) -> Result<Panel, Refusal>
-        ensures { PanelTold (whole C.Carrier.lanes K.Kind.book self.now) v result }
+        ensures { PanelTold (whole C.lanes K.book self.now) v result }
     {
-        if v >= self.tree()?.panels() {
-            return Err(Refusal::NoSuchPanel);
-        }
-        Ok(self.core.panels[v])
+        let panels = self.opened()?;
+        panels.each.get(v).copied().ok_or(Refusal::NoSuchPanel)
     }
 
-    // A panel that exists.
+    // A panel, or a blank one where there is none.
     pub(crate) fn standing(&self, v: usize) -> Panel
-        requires { nat_le (length (tree_of self.now.core.tree)) v ≡ false }
-        ensures { panel_of result ≡ panel_at (whole C.Carrier.lanes K.Kind.book self.now) v }
+        ensures { panel_of result ≡ panel_at (whole C.lanes K.book self.now) v }
     {
-        self.core.panels[v]
+        self.each().get(v).copied().unwrap_or_default()
     }
 
     // A panel that holds: refused as `panel`, then NotHolding.
     pub(crate) fn holder(&self, v: usize) -> Result<Panel, Refusal>
-        ensures { HolderTold (whole C.Carrier.lanes K.Kind.book self.now) v result }
+        ensures { HolderTold (whole C.lanes K.book self.now) v result }
     {
         let panel = self.panel(v)?;
-        match panel.state {
-            State::Holding => Ok(panel),
-            _ => Err(Refusal::NotHolding),
+        if panel.state != State::Holding {
+            return Err(Refusal::NotHolding);
         }
+        Ok(panel)
     }
 
     // Stores a panel at its place.
     pub(crate) fn store(&mut self, v: usize, panel: Panel)
-        requires { nat_le (length (tree_of self.old.core.tree)) v ≡ false }
-        ensures { whole C.Carrier.lanes K.Kind.book self.new ≡ with_panel (whole C.Carrier.lanes K.Kind.book self.old) v (panel_of panel) }
+        ensures { whole C.lanes K.book self.new ≡ with_panel (whole C.lanes K.book self.old) v (panel_of panel) }
     {
-        self.core.panels[v] = panel;
+        if let Some(panels) = &mut self.panels {
+            panels.store(v, panel);
+        }
+    }
+
+    // The first step from a panel to another. A group that is not open has no panel.
+    pub(crate) fn first_step(&self, from: usize, to: usize) -> Result<usize, Refusal>
+        ensures { result ≡ first_step_answer self.now.tree from to }
+    {
+        match &self.panels {
+            Some(panels) => panels.tree.first_step(from, to),
+            None => Err(Refusal::NoSuchPanel),
+        }
+    }
+
+    // The lane from a panel to its neighbour. A group that is not open has no panel.
+    fn lane(&self, from: usize, to: usize) -> Result<usize, Refusal>
+        ensures { result ≡ lane_answer self.now.tree from to }
+    {
+        match &self.panels {
+            Some(panels) => panels.tree.lane(from, to),
+            None => Err(Refusal::NoSuchPanel),
+        }
     }
 
     // Sends a message with a body from a panel to its neighbour.
@@ -106,10 +135,9 @@ impl<C: Carrier, K: Kind> Group<C, K> {
         message: Message,
         body: &[u32],
     ) -> Result<(), Refusal>
-        requires { nat_lt 0 (length (tree_of self.old.core.tree)) ≡ true }
-        ensures { SentOut (whole C.Carrier.lanes K.Kind.book self.old) from to message body.now result (whole C.Carrier.lanes K.Kind.book self.new) }
+        ensures { SentOut (whole C.lanes K.book self.old) from to message body.now result (whole C.lanes K.book self.new) }
     {
-        let lane = self.tree()?.lane(from, to)?;
+        let lane = self.lane(from, to)?;
         let word = message.word()?;
         self.carrier.post(lane, word, body)
     }

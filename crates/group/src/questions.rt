@@ -1,7 +1,7 @@
 // Questions to a group, which change nothing.
 // Assumes nothing.
 ghost use Rattle.std.specs.Prelude.{◌≡◌, length};
-ghost use Rattle.arrow.specs.Mask.{waiting_bit, waiting_word, how_many_wait};
+ghost use Rattle.arrow.specs.Mask.{waiting_word, how_many_wait};
 ghost use Rattle.arrow.specs.World.{is_open};
 ghost use Rattle.group.specs.Whole.{whole};
 
@@ -11,59 +11,42 @@ use arrow::state::State;
 use book::kind::Kind;
 use carrier::traits::Carrier;
 
-// 1 for a panel that waits, else 0.
-fn waiting_bit(state: State) -> u32
-    ensures { result ≡ waiting_bit state }
-{
-    match state {
-        State::Waiting => 1,
-        _ => 0,
-    }
-}
-
 impl<C: Carrier, K: Kind> Group<C, K> {
     // Requests accepted, find words sent, book words sent, grants, releases accepted.
     pub fn counts(&self) -> Counts
-        ensures { result ≡ (whole C.Carrier.lanes K.Kind.book self.now).counts }
+        ensures { result ≡ (whole C.lanes K.book self.now).counts }
     {
-        self.core.counts
+        self.counts
     }
 
     // Whether the group is open.
     pub fn is_open(&self) -> bool
-        ensures { result ≡ is_open (whole C.Carrier.lanes K.Kind.book self.now) }
+        ensures { result ≡ is_open (whole C.lanes K.book self.now) }
     {
-        match self.tree() {
-            Ok(_) => true,
-            Err(_) => false,
-        }
+        self.panels.is_some()
     }
 
     // How many panels there are, none while the group is not open.
     pub fn panels(&self) -> usize
-        ensures { result ≡ length (whole C.Carrier.lanes K.Kind.book self.now).tree }
+        ensures { result ≡ length (whole C.lanes K.book self.now).tree }
     {
-        match self.core.tree {
-            Some(tree) => tree.panels(),
-            None => 0,
-        }
+        self.each().len()
     }
 
     // Which panels wait, as one word: bit v is that of panel v. None while the group is not open.
     pub fn waiting(&self) -> u32
-        ensures { result ≡ waiting_word (whole C.Carrier.lanes K.Kind.book self.now).panels }
+        ensures { result ≡ waiting_word (whole C.lanes K.book self.now).panels }
     {
         let mut word: u32 = 0;
-        for v in 0..self.panels() {
-            let panel = &self.core.panels[v];
-            word |= waiting_bit(panel.state) << v;
+        for (v, panel) in self.each().iter().enumerate() {
+            word |= u32::from(panel.state == State::Waiting) << v;
         }
         word
     }
 
     // How many panels wait: the ones of that word.
     pub fn waiting_count(&self) -> u32
-        ensures { result ≡ how_many_wait (whole C.Carrier.lanes K.Kind.book self.now).panels }
+        ensures { result ≡ how_many_wait (whole C.lanes K.book self.now).panels }
     {
         self.waiting().count_ones()
     }

@@ -1,4 +1,4 @@
-use Rattle.std.proofs.Common.{rules}
+use Rattle.std.proofs.Common.{ap, rules}
 use Rattle.group.specs.Whole.{whole}
 use Rattle.group.proofs.Steps.{arrived_so}
 use Rattle.group.proofs.memory.Group.deliver.Goals as goal
@@ -10,7 +10,7 @@ returns-in_err-received g c =
 
 pub returns : goal.returns
 returns g c =
-    let w = whole g.C.Carrier.lanes g.K.Kind.book c.args.self.now in
+    let same = ap (whole g.C.Carrier.lanes g.K.Kind.book) c.self.view_is in
     let took = c.in_ok-received.ensures in
-    let done = arrived_so w c.args.lane c.args.spare.now c.take.new.space took.0 _ _ _ _ c.in_ok-from.ensures took.1 c.arrive.ensures in
-    record { place = took.0; waits = λ _. took.1.1.within; by_rule = done.0; spare_is = done.1 }
+    let done = arrived_so _ _ same c.args.lane c.args.spare.now c.take.new.space took.0 _ _ _ _ c.in_ok-ends.ensures took.1 c.arrive.ensures in
+    record { place = took.0; waits = λ _. done.0; by_rule = done.1; spare_is = done.2 }

@@ -6,11 +6,11 @@ use Rattle.group.proofs.memory.Group.meet.Goals as goal
 
 pub returns-in_err-action : goal.returns-in_err-action
 returns-in_err-action g c =
-    absurd (short_err (panel_of c.standing-before.result) c.args.from c.args.at c.args.message c.args.body.now _ _ c.requires.short c.in_err-action.ensures)
+    absurd (short_err (panel_of c.standing-before.result) c.args.ends.from c.args.ends.at c.args.message c.args.body.now _ _ c.requires.short c.in_err-action.ensures)
 
 pub returns : goal.returns
 returns g c =
-    met_by (whole g.C.Carrier.lanes g.K.Kind.book c.args.self.now) c.args.from c.args.at c.args.body.now c.args.message
+    met_by (whole g.C.Carrier.lanes g.K.Kind.book c.args.self.now) c.args.ends.from c.args.ends.at c.args.body.now c.args.message
     (panel_of c.standing-before.result) _ _ _ c.standing-before.ensures
-    (short_ok (panel_of c.standing-before.result) c.args.from c.args.at c.args.message c.args.body.now _ _ c.requires.short c.in_ok-action.ensures)
+    (short_ok (panel_of c.standing-before.result) c.args.ends.from c.args.ends.at c.args.message c.args.body.now _ _ c.requires.short c.in_ok-action.ensures)
     c.act.ensures

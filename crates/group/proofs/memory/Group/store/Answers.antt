@@ -1,11 +1,7 @@
-use Rattle.std.proofs.Common.{length, ap}
-use Rattle.group.specs.Whole.{tree_of}
-use Rattle.group.proofs.Stored.{stored_at, world_with}
+use Rattle.std.proofs.Common.{rules}
+use Rattle.std.proofs.lemmas.List.{map-set}
+use Rattle.group.proofs.memory.Group.store.Goals.{in-Some, in_default}
 use Rattle.group.proofs.memory.Group.store.Goals as goal
 
 pub returns : goal.returns
-returns g c =
-    let self = c.args.self.now in
-    let core = self.core in
-    ap (world_with (g.K.Kind.book self.kind) (tree_of core.tree) core.counts (g.C.Carrier.lanes self.carrier))
-    (stored_at (length (tree_of core.tree)) core.panels c.args.v c.args.panel c.requires)
+returns g c = elim c.match-self.branch [ in-Some w ↦ search (rules, map-set) | in_default w ↦ search rules ]
