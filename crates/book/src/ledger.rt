@@ -9,7 +9,7 @@ ghost use Rattle.book.specs.LedgersLemmas.{ledger_sound};
 use crate::bits::Bits;
 use crate::fault::Fault;
 use crate::kind::Kind;
-use crate::space::lay;
+use words::body::lay;
 use words::refusal::Refusal;
 
 const ACCOUNTS: usize = 16;

@@ -7,6 +7,5 @@ pub mod fault;
 pub mod kind;
 pub mod ledger;
 pub mod page;
-pub mod space;
 #[cfg(test)]
 mod tests;

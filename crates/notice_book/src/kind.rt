@@ -10,7 +10,7 @@ ghost use Rattle.notice_book.specs.NoticesLemmas.{notice_sound};
 use crate::entry::NoticeEntry;
 use crate::text::{TEXT_WORDS, Text};
 use book::kind::Kind;
-use book::space::lay;
+use words::body::lay;
 use words::refusal::Refusal;
 
 const WIDTH: usize = TEXT_WORDS + 1;

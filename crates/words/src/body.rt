@@ -76,12 +76,18 @@ impl Body {
     pub fn lay(&self, space: &mut [u32]) -> Result<(), Refusal>
         ensures { Lays (body_words self.now) space.old result space.new }
     {
-        let body = self.words();
-        let size = body.len();
-        if space.len() < size {
-            return Err(Refusal::SpaceTooShort);
-        }
-        space[0..size].copy_from_slice(body);
-        Ok(())
+        lay(self.words(), space)
     }
+}
+
+// Lays words into the first words of a space, whose other words stay, or SpaceTooShort.
+pub fn lay(words: &[u32], space: &mut [u32]) -> Result<(), Refusal>
+    ensures { Lays words.now space.old result space.new }
+{
+    let size = words.len();
+    if space.len() < size {
+        return Err(Refusal::SpaceTooShort);
+    }
+    space[..size].copy_from_slice(words);
+    Ok(())
 }
