@@ -1,14 +1,47 @@
 -- Steps of writing a table: one number more, one text after another. Assumes nothing.
-use Rattle.std.proofs.Common.{◌≡◌, ℕ, zero, suc, ◌+◌, max, List, ◌++◌, IfOk, Ok, Err, Result, sym, ap, ◌∙◌, add-zero, add-suc, suc-add, zero-add, add-one}
+use Rattle.std.specs.List.{range_with_len, reduce}
+use Rattle.std.specs.Option.{unwrap_or}
+use Rattle.std.specs.Ordering.{nat_cmp, max_by_ordering}
+use Rattle.std.specs.Fn.{Called}
+use Rattle.std.specs.Iterator.{PicksByCmp}
+use Rattle.std.specs.Iterator.Adapters.{map_source, map_callee}
+use Rattle.std.specs.declared.iter.Map.{Map}
+use Rattle.std.specs.declared.ops.Range.{Range}
+use denote.Param.Members.{Mut}
+use Rattle.std.proofs.iter.Yields.{nat_range_steps}
+use Rattle.std.proofs.lemmas.Iterator.{maps, YieldsList-from_range, YieldsList-from_map}
+use Rattle.std.proofs.lemmas.Iterator.Consumers.{YieldsList-at, max_from_yields_List}
+use Rattle.std.proofs.lemmas.Iterator.Adapters.{option_map_id}
+use Rattle.std.proofs.lemmas.List.FromFn.{map-range_with_len_more}
+use Rattle.std.proofs.Common.{Option, lit<, length-append, map, inl, inr, true, false, leb, ◌<◌, ◌≤◌, ◌^◌, ◌-◌, ◌/◌, ◌%◌, arith, length, fold, refl, [], ◌∷◌, ◌≡◌, ℕ, zero, suc, ◌+◌, max, List, ◌++◌, sym, ap, ◌∙◌, add-zero, add-suc, suc-add, zero-add, add-one}
 use Rattle.std.proofs.lemmas.List.{append_assoc, append-nil}
-use Rattle.layout.specs.Tables.{greatest, texts}
+use Rattle.std.proofs.lemmas.List.Sums.{fold-append}
+use native.Mathlib.Nat.{zero-max, sub-zero}
+use Rattle.std.specs.Fmt.{styled_decimal, padded_integral, format_spec, char_count, decimal}
+use Rattle.std.proofs.lemmas.Fmt.{decimal_digit, decimal_step, decimal_nonempty}
+use Rattle.std.proofs.lemmas.Str.{encode_ascii}
+use Rattle.std.proofs.lemmas.Bool.{cases_lt, le-leb, lt-leb}
+use Rattle.layout.specs.Tables.{greatest, texts, two_places}
 
--- one value more
-pub greatest_more : (value : ℕ → ℕ) (n most next now : ℕ) → most ≡ greatest value n → next ≡ value n → now ≡ max most next
-    → now ≡ greatest value (n + 1)
-greatest_more value n most next now so_far here is = rw add-one (is ∙ rw (so_far, here))
+reduced : (values : List ℕ) → unwrap_or (reduce max values) 0 ≡ fold max 0 values
+reduced [] = refl
+reduced (v ∷ values) = rw zero-max
 
--- one text more
+folded : (value : ℕ → ℕ) (n : ℕ) → fold max 0 (map value (range_with_len 0 n)) ≡ greatest value n
+folded value zero = refl
+folded value (suc n) =
+    let more = map-range_with_len_more value 0 n n (zero-add n) in
+    ap (λ m. fold max 0 (map value (range_with_len 0 m))) (sym (add-one n)) ∙ rw (more, fold-append, folded value n)
+
+-- the greatest of the values at the numbers below n, as a chain finds it
+pub greatest_found : {F : Type 0} {s : Map (Range ℕ) F} (g : Mut F (ℕ × Unit {0}) ℕ) (value : ℕ → ℕ) {f : F} (n all most : ℕ) (r : Option ℕ)
+    → PicksByCmp (maps nat_range_steps g) max_by_ordering (λ a b. nat_cmp a b) s r → map_source s ≡ record { start = 0; end = n } → map_callee s ≡ f
+    → ((x m : ℕ) (q : F) → Called g f (x, tt) m q → (q ≡ f) × (m ≡ value x)) → most ≡ unwrap_or r 0 → n ≡ all → most ≡ greatest value all
+greatest_found {s = s} g value n all most r ran source closure calls is every =
+    let values = YieldsList-from_map g value (YieldsList-at source (YieldsList-from_range 0 n n refl (sub-zero n))) closure calls in
+    let found = sym (option_map_id r) ∙ max_from_yields_List s r ran values in
+    is ∙ ap (λ o. unwrap_or o 0) found ∙ reduced (map value (range_with_len 0 n)) ∙ folded value n ∙ ap (greatest value) every
+
 texts_last : (text : ℕ → List ℕ) (a n : ℕ) → texts text a (suc n) ≡ texts text a n ++ text (a + n)
 texts_last text a zero = rw add-zero (append-nil (text a))
 texts_last text a (suc n) =
@@ -16,21 +49,25 @@ texts_last text a (suc n) =
     let place : a + 1 + n ≡ a + suc n = rw (add-one, suc-add, add-suc) in
     ap (λ t. text a ++ t) (on ∙ rw place) ∙ sym (append_assoc (text a) (texts text (a + 1) n) (text (a + suc n)))
 
-pub texts_more : (text : ℕ → List ℕ) (n : ℕ) (start so_far now : List ℕ) → so_far ≡ start ++ texts text 0 n → now ≡ so_far ++ text n
-    → now ≡ start ++ texts text 0 (n + 1)
-texts_more text n start so_far now before is =
-    let place : text (0 + n) ≡ text n = rw zero-add in
-    let all : texts text 0 (suc n) ≡ texts text 0 n ++ text n = texts_last text 0 n ∙ rw place in
-    rw (add-one, all) (is ∙ rw before (append_assoc start (texts text 0 n) (text n)))
+two_digits : (n : ℕ) → 10 ≤ n → n < 2 ^ 64 → 2 - length (decimal n) ≡ 0
+two_digits n h small =
+    let split : length (decimal n) ≡ length (decimal (n / 10)) + 1 = ap length (decimal_step n h small) ∙ length-append (decimal (n / 10)) ((48 + n % 10) ∷ []) in
+    omega (arith, decimal_nonempty (n / 10) (omega arith))
 
--- one text after another
-pub appended : (start middle end first second : List ℕ) → middle ≡ start ++ first → end ≡ middle ++ second
-    → end ≡ start ++ (first ++ second)
-appended start middle end first second before after = after ∙ rw before (append_assoc start first second)
+padded_two_places : (n : ℕ) → n < 2 ^ 64 → padded_integral (format_spec 32 0 0 2 (2 ^ 64 - 1)) false [] (decimal n) ≡ two_places n
+unfolding padded_integral char_count
+padded_two_places n small = elim (cases_lt n 10) [
+  | inl h ↦ let t : leb n 9 ≡ true = le-leb n 9 (omega arith) in rw (t, decimal_digit n h, encode_ascii 32 (lit< tt))
+  | inr h ↦ let f : leb n 9 ≡ false = lt-leb n 9 (omega arith) in rw (f, two_digits n h small) (append-nil (decimal n))
+]
 
--- the same where the second may have failed; both are the text
-pub made_after : {X Y : Type 0} (r : Result X Y) (start middle end first second text : List ℕ) → middle ≡ start ++ first
-    → IfOk r (λ _. end ≡ middle ++ second) → first ++ second ≡ text → IfOk r (λ _. end ≡ start ++ text)
-made_after (Ok x) start middle end first second text before after whole =
-    appended start middle end first second before after ∙ rw whole
-made_after (Err e) start middle end first second text before after whole = tt
+-- what a hole of two places writes
+pub styled_two_places : (s : _) (n : ℕ) → s ≡ format_spec 32 0 0 2 (2 ^ 64 - 1) → n < 2 ^ 64 → styled_decimal s n ≡ two_places n
+styled_two_places s n e small = ap (λ t. styled_decimal t n) e ∙ padded_two_places n small
+
+-- one text more
+pub one_more : (front middle : List ℕ) (text : ℕ → List ℕ) (n : ℕ) (next : List ℕ) → next ≡ text n
+    → (front ++ (middle ++ texts text 0 n)) ++ next ≡ front ++ (middle ++ texts text 0 (n + 1))
+one_more front middle text n next is =
+    let last : texts text 0 (suc n) ≡ texts text 0 n ++ next = texts_last text 0 n ∙ rw (zero-add, is) in
+    rw (add-one, last) (append_assoc front (middle ++ texts text 0 n) next ∙ ap (λ t. front ++ t) (append_assoc middle (texts text 0 n) next))

@@ -27,4 +27,4 @@ layout_of line = cond (nat_le (length line) 200) (numbers_of (pieces line)) (Err
 abbrev pub Reads : Result (List ℕ) Refusal → Result (Vec ℕ Global) Fault → Type 0
 Reads answer (Ok numbers) = answer ≡ Ok (vec_items numbers)
 Reads answer (Err (Refused e)) = answer ≡ Err e
-Reads answer (Err NoMemory) = Unit {0}
+Reads answer (Err (NoMemory e)) = Unit {0}

@@ -1,11 +1,15 @@
 -- The table of cable steps that a layout prints, byte by byte. Assumes nothing.
-use Rattle.std.specs.Prelude.{ℕ, zero, suc, ◌+◌, max, cond, List, [], ◌∷◌, ◌++◌, length, Ok, Err, codes, decimal, Result, nat_le}
+use Rattle.std.specs.Prelude.{◌≡◌, ℕ, zero, suc, ◌+◌, max, cond, List, [], ◌∷◌, ◌++◌, length, Ok, Err, codes, decimal, Result, nat_le}
 use Rattle.std.specs.List.{flat_map}
 use Rattle.text.specs.Pieces.{lines}
+use Rattle.tree.specs.declared.cables.Tree.{Tree}
+use Rattle.tree.specs.Answers.{parents}
 use Rattle.tree.specs.Tree.{lawful_tree, distance}
 use Rattle.words.specs.Refusals.{number_of}
 use Rattle.words.specs.declared.refusal.Refusal.{Refusal}
 use Rattle.words.specs.declared.refusal.Refusal.TheVariants.{UnlawfulTree}
+use Rattle.layout.specs.declared.fault.Fault.{Fault}
+use Rattle.layout.specs.declared.fault.Fault.TheVariants.{Refused, NoMemory}
 use Rattle.layout.specs.Layouts.{layout_of}
 
 -- the end of a printed line
@@ -65,3 +69,9 @@ quoted line = quoted_layout (layout_of line)
 -- what is printed for a text: that of each of its lines, one after the other
 abbrev pub quoted_text : List ℕ → List ℕ
 quoted_text text = flat_map quoted (lines text)
+
+-- the text is what is printed for a tree that was read, or for its refusal, unless there was no memory
+abbrev pub Quotes : List ℕ → Result Tree Fault → Type 0
+Quotes text (Ok tree) = text ≡ table (parents tree)
+Quotes text (Err (Refused e)) = text ≡ refused_line e
+Quotes text (Err (NoMemory e)) = Unit {0}

@@ -1,16 +1,16 @@
 // What can go wrong with a line.
 // Assumes nothing.
-ghost use Rattle.std.specs.Prelude.{◌≡◌};
+ghost use Rattle.std.specs.Prelude.{◌≡◌, alloc_error};
 ghost use Rattle.layout.specs.declared.fault.Fault.TheVariants.{Refused, NoMemory};
 
-use std::alloc::AllocFailed as Unstored;
+use std::alloc::{AllocError, AllocFailed};
 use words::refusal::Refusal;
 
 // The line is refused, or there is no memory for it.
-#[derive(Clone, Copy)]
+#[derive(Clone, Copy, PartialEq, Eq, Debug)]
 pub enum Fault {
     Refused(Refusal),
-    NoMemory,
+    NoMemory(AllocError),
 }
 
 impl From<Refusal> for Fault {
@@ -21,11 +21,10 @@ impl From<Refusal> for Fault {
     }
 }
 
-impl<T: Drop> From<Unstored<T>> for Fault {
-    ghost from_gives = { λ e r. r ≡ NoMemory };
+impl<T: Drop> From<AllocFailed<T>> for Fault {
+    ghost from_gives = { λ _ r. r ≡ NoMemory alloc_error };
 
-    fn from(value: Unstored<T>) -> Fault {
-        drop(value);
-        Fault::NoMemory
+    fn from(value: AllocFailed<T>) -> Fault {
+        Fault::NoMemory(value.into())
     }
 }

@@ -5,12 +5,8 @@ ghost use Rattle.text.specs.Pieces.{pieces};
 
 use crate::fault::Fault;
 use std::alloc::Global;
-use text::cut::first_place;
 use text::number::number;
 use words::refusal::Refusal;
-
-// What stands between two numbers.
-const SPACE: u8 = 32;
 
 // How many bytes a line may have, its end not counted.
 pub const LONGEST_LINE: usize = 200;
@@ -30,13 +26,8 @@ fn numbers(heap: Global, line: &[u8]) -> Result<Vec<usize>, Fault>
     ensures { Reads (numbers_of (pieces line.now)) result }
 {
     let mut read = Vec::new(heap);
-    let mut rest = line;
-    loop {
-        let end = first_place(SPACE, rest);
-        read.push(number(&rest[0..end])?)?;
-        if end >= rest.len() {
-            return Ok(read);
-        }
-        rest = &rest[end + 1..];
+    for piece in line.split(|byte| *byte == b' ') {
+        read.push(number(piece)?)?;
     }
+    Ok(read)
 }

@@ -1,122 +1,89 @@
-// The table of cable steps between the panels of a layout.
+// The table of cable steps between the panels of a layout, as it is printed.
 // Assumes nothing.
-ghost use Rattle.std.specs.Prelude.{◌≡◌, ◌<◌, ◌++◌, length, string_bytes, OnOk};
-ghost use Rattle.layout.specs.Tables.{two_places, farthest_from, farthest, heading, cell, row, table, texts, refused_line};
+ghost use Rattle.std.specs.Prelude.{◌≡◌, ◌<◌, length, Some};
+ghost use Rattle.layout.specs.Tables.{farthest_from, farthest, row, table};
 ghost use Rattle.tree.specs.Answers.{parents};
 ghost use Rattle.tree.specs.Tree.{distance};
 
-use std::alloc::AllocError;
-use std::fmt::Write;
+use std::fmt;
 use tree::Tree;
-use words::refusal::Refusal;
 
-// A number in at least two places.
-fn write_two_places(out: &mut String, number: usize) -> Result<(), AllocError>
-    ensures { OnOk result (string_bytes out.new ≡ string_bytes out.old ++ two_places number) }
-{
-    if number < 10 {
-        write!(out, " {number}")
-    } else {
-        write!(out, "{number}")
+// The table of a tree.
+#[derive(Clone, Copy)]
+pub(crate) struct Table<'a>(pub(crate) &'a Tree);
+
+// The row of a panel in the table of its tree.
+#[derive(Clone, Copy)]
+struct Row<'a> {
+    tree: &'a Tree,
+    panel: usize,
+    ghost exists: { panel < length (parents tree.now) },
+}
+
+impl<'a> Table<'a> {
+    // The row of a panel that exists.
+    fn row(&self, panel: usize) -> Row<'a>
+        requires { panel < length (parents self.now.0.now) }
+        ensures tree { result.tree.now ≡ self.now.0.now }
+        ensures panel { result.panel ≡ panel }
+    {
+        Row {
+            tree: self.0,
+            panel,
+        }
+    }
+
+    // The greatest distance of two panels.
+    fn farthest(&self) -> usize
+        ensures { result ≡ farthest (parents self.now.0.now) }
+    {
+        (0..self.0.panels())
+            .map(|panel| self.row(panel).farthest())
+            .max()
+            .unwrap_or(0)
     }
 }
 
-// The distance of two panels that exist.
-fn steps(tree: &Tree, a: usize, b: usize) -> usize
-    requires { (a < length (parents tree.now)) × (b < length (parents tree.now)) }
-    ensures { result ≡ distance (parents tree.now) a b }
-{
-    match tree.distance(a, b) {
-        Ok(cables) => cables,
-        Err(_) => unreachable(),
+impl Row<'_> {
+    // The distance to a panel that exists.
+    fn steps(&self, to: usize) -> usize
+        requires { to < length (parents self.now.tree.now) }
+        ensures { result ≡ distance (parents self.now.tree.now) self.now.panel to }
+    {
+        self.tree.distance(self.panel, to).unwrap()
+    }
+
+    // The greatest distance from the panel.
+    fn farthest(&self) -> usize
+        ensures { result ≡ farthest_from (parents self.now.tree.now) self.now.panel }
+    {
+        let panels = 0..self.tree.panels();
+        panels.map(|to| self.steps(to)).max().unwrap_or(0)
     }
 }
 
-// The greatest distance from a panel.
-fn farthest_from(tree: &Tree, a: usize) -> usize
-    requires { a < length (parents tree.now) }
-    ensures { result ≡ farthest_from (parents tree.now) a }
-{
-    let mut most: usize = 0;
-    for b in 0..tree.panels() {
-        most = most.max(steps(tree, a, b));
+impl fmt::Display for Table<'_> {
+    ghost output = { λ t. Some (table (parents t.0.now)) };
+
+    fn fmt<W: fmt::Write>(&self, f: &mut fmt::Formatter<W>) -> fmt::Result {
+        let panels = self.0.panels();
+        writeln!(f, "panels {panels} farthest {}", self.farthest())?;
+        for panel in 0..panels {
+            write!(f, "{}", self.row(panel))?;
+        }
+        Ok(())
     }
-    most
 }
 
-// The greatest distance of two panels.
-fn farthest(tree: &Tree) -> usize
-    ensures { result ≡ farthest (parents tree.now) }
-{
-    let mut most: usize = 0;
-    for a in 0..tree.panels() {
-        most = most.max(farthest_from(tree, a));
+impl fmt::Display for Row<'_> {
+    ghost output = { λ r. Some (row (parents r.tree.now) r.panel) };
+
+    fn fmt<W: fmt::Write>(&self, f: &mut fmt::Formatter<W>) -> fmt::Result {
+        let panel = self.panel;
+        write!(f, "{panel:2}:")?;
+        for to in 0..self.tree.panels() {
+            write!(f, " {:2}", self.steps(to))?;
+        }
+        writeln!(f)
     }
-    most
-}
-
-// The heading of a table.
-fn write_heading(out: &mut String, tree: &Tree) -> Result<(), AllocError>
-    ensures { OnOk result (string_bytes out.new ≡ string_bytes out.old ++ heading (parents tree.now)) }
-{
-    let panels = tree.panels();
-    let most = farthest(tree);
-    writeln!(out, "panels {panels} farthest {most}")
-}
-
-// The distance of two panels, behind a space.
-fn write_cell(out: &mut String, tree: &Tree, a: usize, b: usize) -> Result<(), AllocError>
-    requires { (a < length (parents tree.now)) × (b < length (parents tree.now)) }
-    ensures { OnOk result (string_bytes out.new ≡ string_bytes out.old ++ cell (parents tree.now) a b) }
-{
-    write!(out, " ")?;
-    write_two_places(out, steps(tree, a, b))
-}
-
-// The distances from a panel to all panels.
-fn write_cells(out: &mut String, tree: &Tree, a: usize) -> Result<(), AllocError>
-    requires { a < length (parents tree.now) }
-    ensures { OnOk result (string_bytes out.new ≡ string_bytes out.old ++ texts (cell (parents tree.now) a) 0 (length (parents tree.now))) }
-{
-    for b in 0..tree.panels() {
-        write_cell(out, tree, a, b)?;
-    }
-    Ok(())
-}
-
-// The row of a panel.
-fn write_row(out: &mut String, tree: &Tree, a: usize) -> Result<(), AllocError>
-    requires { a < length (parents tree.now) }
-    ensures { OnOk result (string_bytes out.new ≡ string_bytes out.old ++ row (parents tree.now) a) }
-{
-    write_two_places(out, a)?;
-    write!(out, ":")?;
-    write_cells(out, tree, a)?;
-    writeln!(out)
-}
-
-// The rows of all panels.
-fn write_rows(out: &mut String, tree: &Tree) -> Result<(), AllocError>
-    ensures { OnOk result (string_bytes out.new ≡ string_bytes out.old ++ texts (row (parents tree.now)) 0 (length (parents tree.now))) }
-{
-    for a in 0..tree.panels() {
-        write_row(out, tree, a)?;
-    }
-    Ok(())
-}
-
-// The whole table of a tree.
-pub(crate) fn write_table(out: &mut String, tree: &Tree) -> Result<(), AllocError>
-    ensures { OnOk result (string_bytes out.new ≡ string_bytes out.old ++ table (parents tree.now)) }
-{
-    write_heading(out, tree)?;
-    write_rows(out, tree)
-}
-
-// A refusal, by its number.
-pub(crate) fn write_refused(out: &mut String, refusal: Refusal) -> Result<(), AllocError>
-    ensures { OnOk result (string_bytes out.new ≡ string_bytes out.old ++ refused_line refusal) }
-{
-    let number = refusal.number();
-    writeln!(out, "refused {number}")
 }

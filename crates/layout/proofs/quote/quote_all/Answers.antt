@@ -1,34 +1,16 @@
 -- `quote_all` quotes one line a turn.
-use Rattle.std.proofs.Common.{◌<◌, length, string_bytes, sym, arith, rules}
-use native.Mathlib.Nat.{sub-zero}
-use Rattle.std.proofs.lemmas.List.{take_rest, length-take, length-drop}
-use Rattle.std.proofs.lemmas.Bool.{eqb-true}
-use Rattle.layout.specs.Tables.{quoted_text}
-use Rattle.layout.proofs.Quoting.{quoted_more, quoted_last, quoted_done}
+use Rattle.std.proofs.Common.{rules, ◌≡◌, ◌++◌, eqb, ap, ◌∙◌, string_bytes}
+use Rattle.std.specs.Slice.Iter.{split_inclusive_rest}
+use Rattle.std.proofs.lemmas.Fn.{always_returns_same}
+use Rattle.layout.specs.Tables.{quoted, quoted_text}
+use Rattle.layout.proofs.Quoting.{quoted_more}
 use Rattle.layout.proofs.quote.quote_all.Goals as goal
 
-pub overflow_add-rest : goal.overflow_add-rest
-overflow_add-rest c = omega arith
-
-pub loop-rest-preserved-then-end-rest : goal.loop-rest-preserved-then-end-rest
-loop-rest-preserved-then-end-rest c = (
-  simp (length-take, length-drop) (omega arith),
-  rw take_rest
-      (quoted_more (quoted_text c.args.text.now) (string_bytes c.loop-rest.out) (string_bytes c.write_quote.new.out)
-      c.loop-rest.rest.now c.loop-rest.invariant.1 c.first_place-end.result (simp sub-zero at c.in_ok-write_quote.ensures)
-      c.first_place-end.ensures.before c.if-end-rest.true (c.first_place-end.ensures.found c.if-end-rest.true)),
-)
-
-pub loop-rest-preserved : goal.loop-rest-preserved
-loop-rest-preserved c =
-    let some : 0 < length c.loop-rest.rest.now = search rules in (
-      simp (length-take, length-drop) (omega arith),
-      rw take_rest
-          (quoted_last (quoted_text c.args.text.now) (string_bytes c.loop-rest.out) (string_bytes c.write_quote.new.out)
-          c.loop-rest.rest.now c.loop-rest.invariant.1 c.first_place-end.result (simp sub-zero at c.in_ok-write_quote.ensures)
-          c.first_place-end.ensures.before some c.if-end-rest.false c.first_place-end.ensures.within),
-    )
-
-pub returns : goal.returns
-returns c = quoted_done (quoted_text c.args.text.now) (string_bytes c.loop-rest.out) c.loop-rest.rest.now c.loop-rest.invariant.1
-    (eqb-true _ 0 (sym c.loop-rest-test.ensures))
+pub loop-line-preserved : goal.loop-line-preserved
+loop-line-preserved c =
+    let step = c.in-Some.ensures.steps in
+    let cut = step.1.2 (λ b. eqb b 10) (always_returns_same _ (λ a r. r ≡ eqb a.0.now 10) _ (λ a r q k. search rules)) in
+    quoted_more (split_inclusive_rest c.loop-line.line-iterator) (split_inclusive_rest c.next.new.self) c.in-Some.line c.strip_suffix.result
+    step.1.0 step.0 step.1.1 cut.1 step.2 c.strip_suffix.ensures.cases
+    (quoted_text c.args.text.now) (string_bytes c.loop-line.out) (string_bytes c.write_quote.new.out) c.loop-line.invariant
+    (c.in_ok-write_quote.ensures ∙ ap (λ l. string_bytes c.loop-line.out ++ quoted l.now) c.unwrap_or.ensures)

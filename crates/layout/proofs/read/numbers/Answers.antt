@@ -1,35 +1,29 @@
--- `numbers` reads one number a turn.
-use Rattle.std.proofs.Common.{sym, add-one}
-use native.Mathlib.Nat.{sub-zero}
-use Rattle.std.proofs.lemmas.List.{take_rest}
+-- `numbers` reads one piece a turn.
+use Rattle.std.proofs.Common.{rules, map, Ok, [], ◌∷◌, ◌∙◌, sym, ap}
+use Rattle.std.proofs.lemmas.List.{map-append}
 use Rattle.std.proofs.lemmas.Result.{err_from_is_err_and}
-use Rattle.layout.proofs.Reading.{read_more, read_last, read_bad}
+use Rattle.layout.specs.Layouts.{numbers_of}
+use Rattle.layout.proofs.Reading.{pieces_given, read_more, read_bad}
+use Rattle.layout.proofs.Roads.{next_item, all_items}
 use Rattle.layout.proofs.read.numbers.Goals as goal
 
 pub returns-in_err-number : goal.returns-in_err-number
 returns-in_err-number c =
     let p = err_from_is_err_and c.from_residual.result c.from_residual.ensures.1 in
+    let next = next_item c.loop-piece.yielded c.loop-piece.piece-iterator c.loop-piece.yielded_by (λ x. x.now) c.next.result c.next.new.self _ c.in-Some.is c.next.ensures.steps
+    (pieces_given _ c.args.line.now c.into_iter-piece-iterator.ensures.into_iter_gives c.split-piece-items.ensures.rest c.split-piece-items.ensures.done
+    c.split-piece-items.ensures.closure (λ x b q k. search rules)) in
     rw (p.1, p.2)
-    (read_bad c.args.line.now c.loop-read.rest.now _ c.loop-read.invariant c.first_place-end.result _
-    c.first_place-end.ensures.before c.first_place-end.ensures.within c.first_place-end.ensures.found
-    (simp sub-zero at (sym c.in_err-number.ensures)))
+    (read_bad _ _ _ _ _ next c.loop-piece.invariant (sym c.in_err-number.ensures))
 
-pub returns-in_err-push : goal.returns-in_err-push
-returns-in_err-push c =
-    let p = err_from_is_err_and c.from_residual-in_err-push.result c.from_residual-in_err-push.ensures.1 in
-    rw (p.1, p.2) tt
+pub loop-piece-preserved : goal.loop-piece-preserved
+loop-piece-preserved c =
+    ap numbers_of (map-append (λ x. x.now) c.loop-piece.yielded (c.in-Some.piece ∷ []))
+    ∙ read_more (map (λ x. x.now) c.loop-piece.yielded) c.in-Some.piece.now _ _ c.loop-piece.invariant (sym c.in_ok-number.ensures) ∙ ap Ok (sym c.in_ok-push.ensures.items)
 
-pub returns-then-end-rest : goal.returns-then-end-rest
-returns-then-end-rest c =
-    rw c.in_ok-push.ensures.items
-    (read_last c.args.line.now c.loop-read.rest.now _ c.loop-read.invariant c.first_place-end.result _
-    c.if-end-rest.true c.first_place-end.ensures.within c.first_place-end.ensures.before
-    (simp sub-zero at (sym c.in_ok-number.ensures)))
-
-pub loop-read-preserved : goal.loop-read-preserved
-loop-read-preserved c =
-    rw (take_rest, add-one)
-    (read_more c.args.line.now c.loop-read.rest.now _ c.loop-read.invariant _ c.first_place-end.result _
-    c.in_ok-push.ensures.items c.if-end-rest.false c.first_place-end.ensures.before
-    (c.first_place-end.ensures.found c.if-end-rest.false)
-    (simp sub-zero at (sym c.in_ok-number.ensures)))
+pub returns : goal.returns
+returns c =
+    let all = all_items c.loop-piece.yielded c.loop-piece.piece-iterator c.loop-piece.yielded_by (λ x. x.now) c.next.result c.next.new.self c.in-None.is c.next.ensures.steps
+    (pieces_given _ c.args.line.now c.into_iter-piece-iterator.ensures.into_iter_gives c.split-piece-items.ensures.rest c.split-piece-items.ensures.done
+    c.split-piece-items.ensures.closure (λ x b q k. search rules)) in
+    ap numbers_of (sym all) ∙ c.loop-piece.invariant
