@@ -36,7 +36,7 @@ fn write_quote(heap: Global, out: &mut String, line: &[u8]) -> Result<(), AllocE
 {
     match read_tree(heap, line) {
         Ok(tree) => write!(out, "{}", Table(&tree)),
-        Err(Fault::Refused(refusal)) => writeln!(out, "refused {}", refusal.number()),
+        Err(Fault::Refused(refusal)) => writeln!(out, "refused {refusal}"),
         Err(Fault::NoMemory(error)) => Err(error),
     }
 }
