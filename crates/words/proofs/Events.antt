@@ -15,7 +15,7 @@ use Rattle.words.specs.Fields.{tag, below_tag, field_a, field_b, field_c, below_
 use Rattle.words.specs.Events.{lawful_if, fielded, event_word, second_word, event_of_fields, event_of, EventsReadBack, EventsAreMade}
 
 -- a word that was made of three fields has them
-fields_back : (kind a b c w : ℕ) → kind < 12 → fielded kind a b c ≡ Ok w
+pub fields_back : (kind a b c w : ℕ) → kind < 12 → fielded kind a b c ≡ Ok w
     → (tag w ≡ kind) × (field_a w ≡ a) × (field_b w ≡ b) × (field_c w ≡ c) × (below_fields w ≡ 0)
 fields_back kind a b c w small made = grind (arith, nat_tests)
 
