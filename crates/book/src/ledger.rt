@@ -21,9 +21,10 @@ const TOTAL: u32 = 16_000;
 
 const OPENING: [u32; ACCOUNTS] = [OPENING_BALANCE; ACCOUNTS];
 
-// The parts of an entry word, and the tag of a transfer.
+// The parts of an entry word.
 const TAG: Bits = Bits { low: 28, count: 4 };
 
+// The tag of a transfer. A constant: it is compared once, so an enum of one tag would say no more.
 const TRANSFER: u32 = 1;
 
 const PAYER: Bits = Bits { low: 24, count: 4 };
@@ -64,7 +65,7 @@ impl TryFrom<u32> for LedgerEntry {
 }
 
 impl LedgerEntry {
-    // The entry that a word stands for.
+    // The entry that a word stands for: try_from, under the name that callers have.
     pub fn read(word: u32) -> Result<LedgerEntry, Fault>
         ensures { result ≡ ledger_entry word }
     {
@@ -72,7 +73,7 @@ impl LedgerEntry {
     }
 }
 
-// Whether a row is lawful. The loop adds in 64 bits, where sixteen words cannot wrap.
+// Whether a row is lawful. A rule of the project: the balances are added in a loop, in 64 bits, where sixteen words cannot wrap.
 fn is_lawful(row: &[u32]) -> bool
     ensures { result ≡ ledger_lawful row.now }
 {

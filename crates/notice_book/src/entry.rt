@@ -6,9 +6,10 @@ ghost use Rattle.notice_book.specs.Notices.{notice_entry};
 use book::bits::Bits;
 use book::fault::Fault;
 
-// The parts of an entry word, and the two tags.
+// The parts of an entry word.
 const TAG: Bits = Bits { low: 28, count: 4 };
 
+// The two tags. Constants: they are matched once, where the entry is made, so an enum of tags would be made only to be matched again.
 const INSERT: u32 = 2;
 
 const DELETE: u32 = 3;
@@ -48,7 +49,7 @@ impl TryFrom<u32> for NoticeEntry {
 }
 
 impl NoticeEntry {
-    // The entry that a word stands for.
+    // The entry that a word stands for: try_from, under the name that callers have.
     pub fn read(word: u32) -> Result<NoticeEntry, Fault>
         ensures { result ≡ notice_entry word }
     {

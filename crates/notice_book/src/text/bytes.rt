@@ -7,7 +7,7 @@ ghost use Rattle.notice_book.specs.Bytes.{blank, bytes_of, printable, words_of};
 use crate::text::{TEXT_BYTES, TEXT_WORDS, WORD_BYTES};
 use arrayvec::ArrayVec;
 
-// The bytes of the text words, the highest of each word first.
+// The bytes of the text words, the highest of each word first. Sixteen words have 64 bytes, so each four of them fit.
 pub(crate) fn unpack(words: &[u32]) -> ArrayVec<u8, TEXT_BYTES>
     requires { length words.now ≡ 16 }
     ensures { result.items ≡ bytes_of words.now }
