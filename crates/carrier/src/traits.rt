@@ -45,12 +45,9 @@ pub trait Carrier {
     fn lane_count(&self) -> usize
         ensures { result ≡ length (lanes self.now) }
     {
-        for lane in 0..MOST_LANES {
-            let Ok(_) = self.count(lane) else {
-                return lane;
-            };
-        }
-        MOST_LANES
+        (0..MOST_LANES)
+            .find(|lane| self.count(*lane).is_err())
+            .unwrap_or(MOST_LANES)
     }
 
     ghost few: { (c : Self) → length (lanes c) ≤ most_lanes };
@@ -69,12 +66,5 @@ pub trait OldestFirst: Carrier {
 pub fn any_waiting<C: Carrier>(carrier: &C) -> bool
     ensures { result ≡ any_waits (C.Carrier.lanes carrier.now) }
 {
-    for lane in 0..MOST_LANES {
-        match carrier.count(lane) {
-            Ok(0) => {}
-            Ok(_) => return true,
-            Err(_) => return false,
-        }
-    }
-    false
+    (0..carrier.lane_count()).any(|lane| carrier.count(lane) != Ok(0))
 }
