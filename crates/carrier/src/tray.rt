@@ -11,17 +11,17 @@ use crate::traits::{Carrier, Received};
 use words::refusal::Refusal;
 
 // The number s of a tray is followed by (1664525 s + 1013904223) mod 2^32.
-const MULTIPLIER: u64 = 1_664_525;
+const MULTIPLIER: u32 = 1_664_525;
 
-const INCREMENT: u64 = 1_013_904_223;
-
-const MODULUS: u64 = 1 << 32;
+const INCREMENT: u32 = 1_013_904_223;
 
 // The newest parcel is given where this bit of the new number is 1, else the oldest.
 const HIGHEST_BIT: u32 = 31;
 
 // A carrier with one number for all its lanes, which decides which parcel a take gives. A take that is
 // refused leaves it.
+// Count and post call the storage as those of the line do: one carrier over a trait of choosers would be
+// a trait, its two impls and a generic struct in place of these four calls.
 #[derive(Drop)]
 pub struct Tray {
     storage: Storage,
@@ -32,14 +32,14 @@ pub struct Tray {
 fn next(number: u32) -> u32
     ensures { result ≡ next_number number }
 {
-    ((MULTIPLIER * u64::from(number) + INCREMENT) % MODULUS) as u32
+    number.wrapping_mul(MULTIPLIER).wrapping_add(INCREMENT)
 }
 
 // The end of a lane that a new number chooses.
 fn chosen(number: u32) -> End
     ensures { result ≡ end_by number }
 {
-    if (number >> HIGHEST_BIT) % 2 == 1 {
+    if number >> HIGHEST_BIT == 1 {
         End::Newest
     } else {
         End::Oldest
