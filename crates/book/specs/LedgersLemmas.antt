@@ -1,8 +1,9 @@
 -- The ledger's rule keeps rows lawful, and what it means. Assumes nothing.
-use Rattle.std.specs.Prelude.{◌≡◌, ℕ, ◌+◌, ◌-◌, ◌/◌, ◌^◌, ◌<◌, ◌≤◌, true, ◌≢◌, List, length, Ok, Err, sum, Result, ◌==◌, nat_lt, slice_index, slice_index_or, slice_set, refl}
+use Rattle.std.specs.Prelude.{◌≡◌, ℕ, ◌/◌, ◌^◌, ◌<◌, ◌≤◌, true, ◌≢◌, List, length, Ok, Err, sum, Result, ◌==◌, nat_lt, slice_index, refl}
 use Rattle.std.proofs.Common.{subst, ◌∙◌, arith, lit≤, length-set, get_or-set_same, get_or-set_other}
 use Rattle.std.proofs.lemmas.List.Sums.{sum_by-set, get_or-le-sum_by}
-use Rattle.std.proofs.lemmas.Bool.{and_parts, and_from, eqb-true, eq-eqb, eqb-false, ltb-false, cond_both}
+use Rattle.std.proofs.lemmas.Bool.{eqb-false, ltb-false, cond_both}
+use Rattle.std.proofs.lemmas.Bool.Decides.{nat_tests}
 use Rattle.book.specs.Numbers.{by_fault_ok, fault_le}
 use Rattle.book.specs.Faults.{by_fault}
 use Rattle.book.specs.Kinds.{Kept, Sound}
@@ -13,10 +14,10 @@ use Rattle.book.specs.declared.ledger.LedgerEntry.{LedgerEntry}
 use Rattle.book.specs.declared.ledger.LedgerEntry.TheVariants.{Transfer}
 
 pub lawful_parts : (row : List ℕ) → ledger_lawful row ≡ true → (length row ≡ 16) × (sum row ≡ 16000)
-lawful_parts row h = let p = and_parts (length row == 16) (sum row == 16000) h in (eqb-true _ _ p.0, eqb-true _ _ p.1)
+lawful_parts row h = (grind (arith, nat_tests), grind (arith, nat_tests))
 
 pub lawful_from : (row : List ℕ) → length row ≡ 16 → sum row ≡ 16000 → ledger_lawful row ≡ true
-lawful_from row l s = and_from _ _ (eq-eqb _ _ l) (eq-eqb _ _ s)
+lawful_from row l s = grind (arith, nat_tests)
 
 -- no account of a lawful row has more than the total
 pub lawful_few : (row : List ℕ) → ledger_lawful row ≡ true → Few row
@@ -24,18 +25,13 @@ lawful_few row h k within = let p = lawful_parts row h in omega (arith, get_or-l
 
 -- a move between two accounts is a payment
 pub moved_pays : (row : List ℕ) (payer payee amount : ℕ) → payer < length row → payee < length row → payer ≢ payee → amount ≤ slice_index row payer → Pays row (moved row payer payee amount) payer payee amount
-moved_pays row payer payee amount pays receives apart enough =
-    let paid : List ℕ = slice_set row payer (slice_index row payer - amount) in
-    let within : payee < length paid = simp length-set receives in
-    let apart' : payee ≢ payer = omega arith in
-    let stays : slice_index_or paid payee 0 ≡ slice_index_or row payee 0 = get_or-set_other row payer payee _ 0 apart' in
-    record {
-      apart = apart;
-      loses = omega (arith, get_or-set_other paid payee payer (slice_index row payee + amount) 0 apart, get_or-set_same row payer (slice_index row payer - amount) 0 pays);
-      gains = get_or-set_same paid payee _ 0 within;
-      others = λ k p q. get_or-set_other paid payee k _ 0 q ∙ get_or-set_other row payer k _ 0 p;
-      same_sum = omega (arith, sum_by-set (λ x. x) paid payee (slice_index row payee + amount) 0 within, sum_by-set (λ x. x) row payer (slice_index row payer - amount) 0 pays);
-    }
+moved_pays row payer payee amount pays receives apart enough = record {
+  apart = apart;
+  loses = grind (arith, length-set, get_or-set_same, get_or-set_other);
+  gains = grind (arith, length-set, get_or-set_same, get_or-set_other);
+  others = λ k p q. grind (arith, get_or-set_other);
+  same_sum = grind (arith, length-set, sum_by-set, get_or-set_same, get_or-set_other);
+}
 
 -- what a lawful row and an entry come to: a payment within the row, or a refusal
 abbrev Made : List ℕ → Result LedgerEntry Fault → Result (List ℕ) Fault → Type 0

@@ -5,7 +5,8 @@ use Rattle.std.specs.List.{AllByRecursion, list_all}
 use Rattle.std.proofs.lemmas.List.Folds.{list_all-append}
 use Rattle.std.proofs.ByRecursion.{All-append}
 use Rattle.std.proofs.lemmas.List.{drop_at, length-take-le, take-append-drop, take_at, length-replicate}
-use Rattle.std.proofs.lemmas.Bool.{and_from, and_parts, cond_both, eq-eqb, eqb-false, eqb-true, le-leb, leb-true, ltb-false, ltb-true}
+use Rattle.std.proofs.lemmas.Bool.{and_from, and_parts, cond_both, eq-eqb, le-leb, leb-true, ltb-false, ltb-true}
+use Rattle.std.proofs.lemmas.Bool.Decides.{nat_tests}
 use Rattle.book.specs.Numbers.{by_fault_ok, fault_le}
 use Rattle.book.specs.Faults.{by_fault}
 use Rattle.book.specs.Kinds.{Kept, Sound}
@@ -45,7 +46,7 @@ small_zeros (suc n) = (omega arith, small_zeros n)
 -- the bytes in the row of a text: the text, and zeros behind it
 module _ (t : List ℕ) (short : length t ≤ 64) (fits : list_all printable t ≡ true) where
   padded_length : length (t ++ replicate (64 - length t) 0) ≡ 64
-  padded_length = length-append t (replicate (64 - length t) 0) ∙ omega (arith, length-replicate {A = ℕ} (64 - length t) 0)
+  padded_length = grind (arith, length-append, length-replicate)
 
   row_bytes : bytes_of (words_of (t ++ replicate (64 - length t) 0)) ≡ t ++ replicate (64 - length t) 0
   row_bytes = bytes_words (t ++ replicate (64 - length t) 0) (omega (arith, padded_length)) (All-append (λ b. b < 256) t _ (small_text t fits) (small_zeros (64 - length t)))
@@ -62,11 +63,7 @@ module _ (t : List ℕ) (short : length t ≤ 64) (fits : list_all printable t �
 -- what a lawful row is
 lawful_parts : (size : ℕ) (words : List ℕ) → notice_lawful (size ∷ words) ≡ true
     → (length words ≡ 16) × (size ≤ 64) × (list_all printable (take size (bytes_of words)) ≡ true) × (list_all blank (drop size (bytes_of words)) ≡ true)
-lawful_parts size words h =
-    let p = and_parts (length words == 16) _ h in
-    let q = and_parts (nat_le size 64) _ p.1 in
-    let r = and_parts _ _ q.1 in
-    (eqb-true _ _ p.0, leb-true _ _ q.0, r.0, r.1)
+lawful_parts size words h = (grind (arith, nat_tests), grind (arith, nat_tests), grind (arith, nat_tests), grind (arith, nat_tests))
 
 pub row_text : (row : List ℕ) → notice_lawful row ≡ true → (length (text row) ≤ 64) × (list_all printable (text row) ≡ true) × (row_of (text row) ≡ row)
 row_text [] h = cc
@@ -90,7 +87,7 @@ edit_made : (t : List ℕ) (entry : NoticeEntry) → length t ≤ 64 → list_al
 edit_made t (Insert place byte) short fits =
     let P = Made (Insert place byte) t in
     cond_both (length t == 64) _ _ P (λ _. tt) λ room. cond_both (nat_lt (length t) place) _ _ P (λ _. tt) λ within. cond_both (printable byte) _ _ P (λ ok. (
-      omega (arith, length-append (take place t) (byte ∷ drop place t), length-take-le place t (ltb-false _ _ within), length-drop place t, eqb-false _ _ room, ltb-false _ _ within),
+      grind (arith, nat_tests, length-append, length-take-le, length-drop),
       joined_pass printable (take place t) (byte ∷ drop place t) (parts_pass printable place t fits).0 (and_from _ _ ok (parts_pass printable place t fits).1),
       (take place t, drop place t, length-take-le place t (ltb-false _ _ within), sym (take-append-drop place t), refl),
     )) (λ _. tt)
@@ -98,7 +95,7 @@ edit_made t (Delete place) short fits =
     let P = Made (Delete place) t in
     cond_both (nat_lt place (length t)) _ _ P (λ inside.
     let within = ltb-true _ _ inside in (
-      omega (arith, length-append (take place t) (drop (suc place) t), length-take-le place t (omega arith), length-drop (suc place) t),
+      grind (arith, length-append, length-take-le, length-drop),
       joined_pass printable (take place t) (drop (suc place) t) (parts_pass printable place t fits).0 (parts_pass printable (suc place) t fits).1,
       (take place t, slice_index t place, drop (suc place) t, length-take-le place t (omega arith), sym (take-append-drop place t) ∙ ap (λ l. take place t ++ l) (drop-cons t place 0 within), refl),
     )) (λ _. tt)
