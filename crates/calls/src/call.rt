@@ -1,7 +1,7 @@
 // The calls of a run, as values.
 // Assumes nothing.
 
-// A call on a group, with its arguments.
+// A call on a group, with its arguments. A value and no closure: the law over runs speaks of lists of calls.
 #[derive(Clone, Copy)]
 pub enum Call<'a> {
     // Open over a list of parents.

@@ -41,7 +41,7 @@ pub fn carry_out<C: Carrier, K: Kind>(
     perform(group, call, spare)
 }
 
-// Carries out a call; a delivery takes the oldest parcel.
+// Carries out a call; a delivery takes the oldest parcel. Only that arm differs: a trait of the two deliveries would be longer.
 fn perform_oldest<C: OldestFirst, K: Kind>(
     group: &mut Group<C, K>,
     call: Call,

@@ -61,6 +61,7 @@ impl<C: Carrier, K: Kind> Group<C, K> {
     }
 
     // Does what is left to do after the panel at a lane's end, whose row was as given, met a message: the panel is then as given.
+    // An action is a value and no closure: what the panel's step ensures names it.
     fn act(
         &mut self,
         ends: Ends,
@@ -124,7 +125,7 @@ impl<C: Carrier, K: Kind> Group<C, K> {
     }
 }
 
-// Of the three calls of `deliver` it changes one, so a function that took that call from both would be longer than this.
+// Of the three calls of `deliver` one differs: a function that is lent that call would need a clause on it and be longer.
 impl<C: OldestFirst, K: Kind> Group<C, K> {
     // Takes the oldest parcel of a lane, and is else as `deliver`.
     pub fn deliver_oldest(&mut self, lane: usize, spare: &mut [u32]) -> Result<Event, Refusal>

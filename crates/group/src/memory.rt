@@ -11,7 +11,7 @@ use tree::cables::{MOST_PANELS, Tree};
 
 // What an open group has: its tree, and a panel for each place of the tree.
 #[derive(Drop)]
-pub struct Panels {
+pub(crate) struct Panels {
     pub(crate) tree: Tree,
     pub(crate) each: ArrayVec<Panel, MOST_PANELS>,
     ghost as_many: { length each.items ≡ length (parents tree) },
@@ -26,6 +26,7 @@ pub struct Group<C, K> {
     pub(crate) panels: Option<Panels>,
 }
 
+// A Value holds no function, and a world holds the rule of a kind: so clauses read the world of a group by `whole`.
 impl<C, K> Model for Group<C, K> {
     ghost use Rattle.group.specs.Seen.{Seen};
 

@@ -1,13 +1,12 @@
 // What the calls on a group are made of: what it has once it is open, a panel, a panel that holds, a panel stored, a message sent.
 // Assumes nothing.
-ghost use Rattle.std.specs.Prelude.{◌≡◌, ◌≤◌, [], length, map};
+ghost use Rattle.std.specs.Prelude.{◌≡◌, ◌≤◌, [], length, map, slice_set};
 ghost use Rattle.arrow.specs.Rules.{more, with_panel};
 ghost use Rattle.arrow.specs.Runs.{Run};
 ghost use Rattle.arrow.specs.World.{new_world, panel_at};
 ghost use Rattle.group.specs.Parts.{OpenTold, PanelTold, HolderTold, SentOut};
 ghost use Rattle.group.specs.Whole.{whole};
 ghost use Rattle.panel.specs.Steps.{panel_of};
-ghost use Rattle.std.specs.Prelude.{slice_set};
 ghost use Rattle.tree.specs.Answers.{first_step_answer, lane_answer};
 ghost use Rattle.tree.specs.Tree.{most_panels};
 
@@ -66,10 +65,9 @@ impl<C: Carrier, K: Kind> Group<C, K> {
         ensures as_many { length result.now ≡ length self.now.tree }
         ensures few { length result.now ≤ most_panels }
     {
-        match &self.panels {
-            Some(panels) => panels.each.as_slice(),
-            None => &[],
-        }
+        self.panels
+            .as_ref()
+            .map_or(&[], |panels| panels.each.as_slice())
     }
 
     // A panel as it is now: NotOpen, or NoSuchPanel.
@@ -111,20 +109,16 @@ impl<C: Carrier, K: Kind> Group<C, K> {
     pub(crate) fn first_step(&self, from: usize, to: usize) -> Result<usize, Refusal>
         ensures { result ≡ first_step_answer self.now.tree from to }
     {
-        match &self.panels {
-            Some(panels) => panels.tree.first_step(from, to),
-            None => Err(Refusal::NoSuchPanel),
-        }
+        let panels = self.panels.as_ref().ok_or(Refusal::NoSuchPanel)?;
+        panels.tree.first_step(from, to)
     }
 
     // The lane from a panel to its neighbour. A group that is not open has no panel.
     fn lane(&self, from: usize, to: usize) -> Result<usize, Refusal>
         ensures { result ≡ lane_answer self.now.tree from to }
     {
-        match &self.panels {
-            Some(panels) => panels.tree.lane(from, to),
-            None => Err(Refusal::NoSuchPanel),
-        }
+        let panels = self.panels.as_ref().ok_or(Refusal::NoSuchPanel)?;
+        panels.tree.lane(from, to)
     }
 
     // Sends a message with a body from a panel to its neighbour.

@@ -12,5 +12,5 @@ pub returns : goal.returns
 returns g c =
     let same = ap (whole g.C.Carrier.lanes g.K.Kind.book) c.self.view_is in
     let took = c.in_ok-received.ensures in
-    let done = arrived_so _ _ same c.args.lane c.args.spare.now c.take.new.space took.0 _ _ _ _ c.in_ok-ends.ensures took.1 c.arrive.ensures in
+    let done = arrived_so _ _ same c.args.lane c.args.spare.now _ took.0 _ _ _ _ c.in_ok-ends.ensures took.1 c.arrive.ensures in
     record { place = took.0; waits = λ _. done.0; by_rule = done.1; spare_is = done.2 }
