@@ -13,7 +13,7 @@ LINES = {
     "3 loops": r"^ *(for|while|loop)\b.*\{$",
     "4 conversion and printing by hand": r"fn (number|word|read|second|of|store|value|next|write_[a-z_]+)\b|\bb'|: u8 = [0-9]+;",
     "5 facts that callers owe": r"^ *requires\b",
-    "5 the same long term in many contracts": r"whole C\.Carrier\.lanes K\.Kind\.book",
+    "5 the same long term in many contracts": r"whole C\.(Carrier\.)?lanes K\.(Kind\.)?book",
     "6 arrays and numbers beside them": r": \[[A-Za-z0-9]+; [A-Z_]+\],|^ *(pub(\(crate\))? )?(size|count|held|first): usize,",
     "7 values that say which step to run": r"enum (Action|Call|End)\b|match (action|call|end)\b",
 }
