@@ -8,14 +8,12 @@ ghost use Rattle.notice_book.specs.Notices.{notice_book};
 ghost use Rattle.notice_book.specs.NoticesLemmas.{notice_sound};
 
 use crate::entry::NoticeEntry;
-use crate::text::{TEXT_WORDS, Text};
+use crate::text::{ROW_WORDS, Text};
 use book::kind::Kind;
 use words::body::lay;
 use words::refusal::Refusal;
 
-const WIDTH: usize = TEXT_WORDS + 1;
-
-const OPENING: [u32; WIDTH] = [0; WIDTH];
+const OPENING: [u32; ROW_WORDS] = [0; ROW_WORDS];
 
 // The kind of a book that holds one short text.
 #[derive(Clone, Copy)]
@@ -30,7 +28,7 @@ fn write(row: &mut [u32], entry: u32) -> Result<(), Refusal>
         NoticeEntry::Insert { place, byte } => text.insert(place, byte)?,
         NoticeEntry::Delete { place } => text.delete(place)?,
     }
-    text.store(row);
+    row.copy_from_slice(&text.row());
     Ok(())
 }
 

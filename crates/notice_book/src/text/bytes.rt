@@ -1,10 +1,10 @@
-// Bytes and the words that hold them.
+// The bytes of words, and tests of bytes.
 // Assumes nothing.
 ghost use Rattle.std.specs.Prelude.{◌≡◌, length};
 ghost use Rattle.std.specs.List.{list_all};
-ghost use Rattle.notice_book.specs.Bytes.{blank, bytes_of, printable, words_of};
+ghost use Rattle.notice_book.specs.Bytes.{blank, bytes_of, printable};
 
-use crate::text::{TEXT_BYTES, TEXT_WORDS, WORD_BYTES};
+use crate::text::TEXT_BYTES;
 use arrayvec::ArrayVec;
 
 // The bytes of the text words, the highest of each word first. Sixteen words have 64 bytes, so each four of them fit.
@@ -17,19 +17,6 @@ pub(crate) fn unpack(words: &[u32]) -> ArrayVec<u8, TEXT_BYTES>
         bytes.try_extend_from_slice(&word.to_be_bytes()).unwrap();
     }
     bytes
-}
-
-// The text words of bytes.
-pub(crate) fn pack(bytes: &[u8; TEXT_BYTES]) -> ArrayVec<u32, TEXT_WORDS>
-    ensures words { result.items ≡ words_of bytes.now }
-    ensures long { length result.items ≡ 16 }
-{
-    let mut words = ArrayVec::new();
-    let (fours, _) = bytes.as_chunks::<WORD_BYTES>();
-    for four in fours {
-        words.push(u32::from_be_bytes(*four));
-    }
-    words
 }
 
 // Whether a text may have a byte.

@@ -1,11 +1,12 @@
-// A text read from a row, and stored in one.
+// A text read from a row, and the row of a text.
 // Assumes nothing.
 ghost use Rattle.std.specs.Prelude.{◌≡◌, ◌-◌, ◌++◌, length, replicate};
 ghost use Rattle.notice_book.specs.Bytes.{row_of};
 ghost use Rattle.notice_book.specs.Texts.{letters, IsRead};
 
-use crate::text::bytes::{all_blank, all_printable, pack, unpack};
-use crate::text::{TEXT_BYTES, TEXT_WORDS, Text};
+use crate::text::bytes::{all_blank, all_printable, unpack};
+use crate::text::{ROW_WORDS, TEXT_BYTES, TEXT_WORDS, Text, WORD_BYTES};
+use arrayvec::ArrayVec;
 use words::refusal::Refusal;
 
 impl TryFrom<&[u32]> for Text {
@@ -42,12 +43,18 @@ impl Text {
         bytes
     }
 
-    // Stores the text in a row.
-    pub(crate) fn store(&self, row: &mut [u32])
-        requires { length row.old ≡ 17 }
-        ensures { row.new ≡ row_of (letters self.now) }
+    // The row of the text.
+    pub(crate) fn row(&self) -> ArrayVec<u32, ROW_WORDS>
+        ensures row { result.items ≡ row_of (letters self.now) }
+        ensures long { length result.items ≡ 17 }
     {
-        row[0] = self.bytes.len() as u32;
-        row[1..].copy_from_slice(&pack(&self.padded()));
+        let bytes = self.padded();
+        let (fours, _) = bytes.as_chunks::<WORD_BYTES>();
+        let mut row = ArrayVec::new();
+        row.push(self.bytes.len() as u32);
+        for four in fours {
+            row.push(u32::from_be_bytes(*four));
+        }
+        row
     }
 }
