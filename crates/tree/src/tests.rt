@@ -22,9 +22,17 @@ fn lawful_lists_only(rt: HostRuntime) -> Result<(), Fail> {
 }
 
 #[test]
-fn ways(rt: HostRuntime) -> Result<(), Fail> {
+fn made_of_its_list(rt: HostRuntime) -> Result<(), Fail> {
     let tree = Tree::new(&[0, 0, 1, 1])?;
     assert_eq!(rt; tree.parents(), [0, 0, 1, 1].as_slice());
+    assert_eq!(rt; tree.parent(3), 1);
+    assert_eq!(rt; tree.parent(4), 0);
+    Ok(())
+}
+
+#[test]
+fn ways(rt: HostRuntime) -> Result<(), Fail> {
+    let tree = Tree::new(&[0, 0, 1, 1])?;
     for (from, to, cables, step) in [
         (2, 3, 2, 1),
         (3, 0, 2, 1),
