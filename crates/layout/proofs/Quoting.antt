@@ -14,7 +14,8 @@ use Rattle.layout.specs.Tables.{quoted, quoted_text}
 abbrev pub Strips : Bor (List ℕ) → Option (Bor (List ℕ)) → Type 0
 Strips l r =
     MatchOption r (pointwise eqb (drop (length l.now - 1) l.now) (10 ∷ []) ≡ false)
-    (λ x. (pointwise eqb (drop (length l.now - 1) l.now) (10 ∷ []) ≡ true) × (x.now ≡ take (length l.now - 1) l.now) × (length x.now + 1 ≡ length l.now))
+    (λ x. (pointwise eqb (drop (length l.now - 1) l.now) (10 ∷ []) ≡ true) × (x.now ≡ take (length l.now - 1) l.now)
+    × (length x.now + 1 ≡ length l.now))
 
 -- the end of a line goes
 stripped : (l : Bor (List ℕ)) (r : Option (Bor (List ℕ))) (front : List ℕ) → l.now ≡ front ++ 10 ∷ [] → Strips l r → (unwrap_or r l).now ≡ front
@@ -30,15 +31,17 @@ kept : (l : Bor (List ℕ)) (r : Option (Bor (List ℕ))) → 0 < length l.now �
 kept l None some none s = refl
 kept l (Some x) some none s =
     let last = same_text (drop (length l.now - 1) l.now) (10 ∷ []) (sym s.0) in
-    absurd (none (length l.now - 1) (omega arith) (ap (λ n. get_or l.now n 0) (sym (add-zero _)) ∙ sym (get_or-drop (length l.now - 1) l.now 0 0) ∙ ap (λ t. get_or t 0 0) last))
+    let here : get_or l.now (length l.now - 1) 0 ≡ 10
+    = ap (λ n. get_or l.now n 0) (sym (add-zero _)) ∙ sym (get_or-drop (length l.now - 1) l.now 0 0) ∙ ap (λ t. get_or t 0 0) last in
+    absurd (none (length l.now - 1) (omega arith) here)
 
 -- the line of a text with no line end
 only_line : (bs : List ℕ) → 0 < length bs → NoneBefore 10 bs (length bs) → lines bs ≡ bs ∷ []
 only_line [] some none = absurd (omega arith)
 only_line (b ∷ bs) some none = cut_last 10 b bs none
 
-module _ (rest more : List ℕ) (l : Bor (List ℕ)) (r : Option (Bor (List ℕ))) (i : ℕ) (cut : rest ≡ l.now ++ more) (size : length l.now ≡ min (i + 1) (length rest))
-    (first : IsFirstMatchOrLen (λ b. eqb b 10) rest i) (some : 0 < length rest) (strips : Strips l r) where
+module _ (rest more : List ℕ) (l : Bor (List ℕ)) (r : Option (Bor (List ℕ))) (i : ℕ) (cut : rest ≡ l.now ++ more)
+    (size : length l.now ≡ min (i + 1) (length rest)) (first : IsFirstMatchOrLen (λ b. eqb b 10) rest i) (some : 0 < length rest) (strips : Strips l r) where
   none_before : NoneBefore 10 rest i
   none_before k h e = true≢false (sym (eq-eqb (get_or rest k 0) 10 e) ∙ first.0 k 0 (omega arith) h)
 
@@ -47,7 +50,8 @@ module _ (rest more : List ℕ) (l : Bor (List ℕ)) (r : Option (Bor (List ℕ)
       let end : get_or rest i 0 ≡ 10 = eqb-true (get_or rest i 0) 10 (first.1 h 0) in
       let long : length l.now ≡ suc i = omega arith in
       let line : l.now ≡ take i rest ++ 10 ∷ []
-      = sym (take-append_seam l.now more) ∙ ap (λ t. take (length l.now) t) (sym cut) ∙ ap (λ n. take n rest) long ∙ take-suc rest i 0 h ∙ ap (λ b. take i rest ++ b ∷ []) end in
+      = sym (take-append_seam l.now more) ∙ ap (λ t. take (length l.now) t) (sym cut) ∙ ap (λ n. take n rest) long
+      ∙ take-suc rest i 0 h ∙ ap (λ b. take i rest ++ b ∷ []) end in
       let others : drop (suc i) rest ≡ more
       = ap (λ n. drop n rest) (sym long) ∙ ap (λ t. drop (length l.now) t) cut ∙ drop-append_seam l.now more in
       cut_first 10 [] rest i h none_before end ∙ rw (others, stripped l r (take i rest) line strips)

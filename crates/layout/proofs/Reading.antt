@@ -25,10 +25,13 @@ split_is [] = refl
 split_is (b ∷ bs) = rw (split_is bs, grown_is b (pieces bs))
 
 -- a line that is cut at each space gives its pieces
-pub pieces_given : {F : Type 0} {s t : Split ℕ F} (g : Mut F (Bor ℕ × Unit {0}) Bool) (line : List ℕ) {f : F} → s ≡ t → split_rest t ≡ line → split_done t ≡ false
-    → split_callee t ≡ f → ((x : ℕ) (b : Bool) (q : F) → CalledAt g f x b q → (q ≡ f) × (b ≡ eqb x 32)) → YieldsList (split_steps g) (λ x. x.now) s (pieces line)
+pub pieces_given : {F : Type 0} {s t : Split ℕ F} (g : Mut F (Bor ℕ × Unit {0}) Bool) (line : List ℕ) {f : F}
+    → s ≡ t → split_rest t ≡ line → split_done t ≡ false → split_callee t ≡ f
+    → ((x : ℕ) (b : Bool) (q : F) → CalledAt g f x b q → (q ≡ f) × (b ≡ eqb x 32))
+    → YieldsList (split_steps g) (λ x. x.now) s (pieces line)
 pieces_given g line is rest done closure calls =
-    subst (YieldsList (split_steps g) (λ x. x.now) _) (split_is line) (YieldsList-at is (YieldsList-from_slice_split g (λ b. eqb b 32) line rest done closure calls))
+    subst (YieldsList (split_steps g) (λ x. x.now) _) (split_is line)
+    (YieldsList-at is (YieldsList-from_slice_split g (λ b. eqb b 32) line rest done closure calls))
 
 -- numbers that were read, and then the others
 abbrev before : List ℕ → Result (List ℕ) Refusal → Result (List ℕ) Refusal

@@ -10,7 +10,8 @@ use Rattle.layout.proofs.read.numbers.Goals as goal
 pub returns-in_err-number : goal.returns-in_err-number
 returns-in_err-number c =
     let p = err_from_is_err_and c.from_residual.result c.from_residual.ensures.1 in
-    let next = next_item c.loop-piece.yielded c.loop-piece.piece-iterator c.loop-piece.yielded_by (λ x. x.now) c.next.result c.next.new.self _ c.in-Some.is c.next.ensures.steps
+    let next = next_item c.loop-piece.yielded c.loop-piece.piece-iterator c.loop-piece.yielded_by (λ x. x.now)
+    c.next.result c.next.new.self _ c.in-Some.is c.next.ensures.steps
     (pieces_given _ c.args.line.now c.into_iter-piece-iterator.ensures.into_iter_gives c.split-piece-items.ensures.rest c.split-piece-items.ensures.done
     c.split-piece-items.ensures.closure (λ x b q k. search rules)) in
     rw (p.1, p.2)
@@ -23,7 +24,8 @@ loop-piece-preserved c =
 
 pub returns : goal.returns
 returns c =
-    let all = all_items c.loop-piece.yielded c.loop-piece.piece-iterator c.loop-piece.yielded_by (λ x. x.now) c.next.result c.next.new.self c.in-None.is c.next.ensures.steps
+    let all = all_items c.loop-piece.yielded c.loop-piece.piece-iterator c.loop-piece.yielded_by (λ x. x.now)
+    c.next.result c.next.new.self c.in-None.is c.next.ensures.steps
     (pieces_given _ c.args.line.now c.into_iter-piece-iterator.ensures.into_iter_gives c.split-piece-items.ensures.rest c.split-piece-items.ensures.done
     c.split-piece-items.ensures.closure (λ x b q k. search rules)) in
     ap numbers_of (sym all) ∙ c.loop-piece.invariant

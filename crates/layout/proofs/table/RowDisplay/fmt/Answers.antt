@@ -7,7 +7,10 @@ use Rattle.layout.proofs.Tables.{styled_two_places, one_more}
 use Rattle.layout.proofs.table.RowDisplay.fmt.Goals as goal
 
 pub loop-to-init : goal.loop-to-init
-loop-to-init g c = λ p. has_written_of_eq _ _ _ _ _ (ap (λ t. t ++ (58 ∷ [])) (styled_two_places c.laid_out.result c.args.self.now.panel (search rules) (search rules))) (c.in_ok-write.ensures.writes p refl)
+loop-to-init g c = λ p.
+    has_written_of_eq _ _ _ _ _
+    (ap (λ t. t ++ (58 ∷ [])) (styled_two_places c.laid_out.result c.args.self.now.panel (search rules) (search rules)))
+    (c.in_ok-write.ensures.writes p refl)
 
 pub loop-to-preserved : goal.loop-to-preserved
 loop-to-preserved g c = λ p.
