@@ -1,4 +1,4 @@
 pub mod Opened
 pub mod Openings
 pub mod Steps
-pub mod Waiting
+pub mod Waits

@@ -27,7 +27,7 @@ pub(crate) fn count(counter: &mut u32)
 }
 
 impl Panels {
-    // Stores a panel at its place.
+    // Stores a panel at its place; where there is no such place, nothing changes.
     pub(crate) fn store(&mut self, v: usize, panel: Panel)
         ensures tree { self.new.tree ≡ self.old.tree }
         ensures each { self.new.each.items ≡ slice_set self.old.each.items v panel }
@@ -96,7 +96,7 @@ impl<C: Carrier, K: Kind> Group<C, K> {
         Ok(panel)
     }
 
-    // Stores a panel at its place.
+    // Stores a panel at its place; where there is no such place, nothing changes.
     pub(crate) fn store(&mut self, v: usize, panel: Panel)
         ensures { whole C.lanes K.book self.new ≡ with_panel (whole C.lanes K.book self.old) v (panel_of panel) }
     {

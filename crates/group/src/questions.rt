@@ -14,7 +14,7 @@ use carrier::traits::Carrier;
 impl<C: Carrier, K: Kind> Group<C, K> {
     // Requests accepted, find words sent, book words sent, grants, releases accepted.
     pub fn counts(&self) -> Counts
-        ensures { result ≡ (whole C.lanes K.book self.now).counts }
+        ensures { result ≡ self.now.counts }
     {
         self.counts
     }
@@ -28,14 +28,14 @@ impl<C: Carrier, K: Kind> Group<C, K> {
 
     // How many panels there are, none while the group is not open.
     pub fn panels(&self) -> usize
-        ensures { result ≡ length (whole C.lanes K.book self.now).tree }
+        ensures { result ≡ length self.now.tree }
     {
         self.each().len()
     }
 
     // Which panels wait, as one word: bit v is that of panel v. None while the group is not open.
     pub fn waiting(&self) -> u32
-        ensures { result ≡ waiting_word (whole C.lanes K.book self.now).panels }
+        ensures { result ≡ waiting_word self.now.panels }
     {
         let mut word: u32 = 0;
         for (v, panel) in self.each().iter().enumerate() {
@@ -46,7 +46,7 @@ impl<C: Carrier, K: Kind> Group<C, K> {
 
     // How many panels wait: the ones of that word.
     pub fn waiting_count(&self) -> u32
-        ensures { result ≡ how_many_wait (whole C.lanes K.book self.now).panels }
+        ensures { result ≡ how_many_wait self.now.panels }
     {
         self.waiting().count_ones()
     }

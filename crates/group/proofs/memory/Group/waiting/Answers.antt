@@ -1,7 +1,7 @@
 use Rattle.std.proofs.Common.{ap, ◌∙◌}
 use mir.Val.{bool_byte}
 use Rattle.arrow.specs.Mask.{waiting_bit}
-use Rattle.group.proofs.Waiting.{bit_is, word_next}
+use Rattle.group.proofs.Waits.{bit_is, word_next}
 use Rattle.group.proofs.memory.Group.waiting.Goals as goal
 
 pub loop-v-preserved : goal.loop-v-preserved
