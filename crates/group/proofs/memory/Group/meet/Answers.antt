@@ -1,7 +1,8 @@
+use Rattle.std.proofs.Common.{arith}
 use Rattle.panel.proofs.Steps.{short_ok, short_err}
 use Rattle.panel.specs.Steps.{panel_of}
 use Rattle.group.specs.Whole.{whole}
-use Rattle.group.proofs.Steps.{met_by}
+use Rattle.group.proofs.Steps.{met}
 use Rattle.group.proofs.memory.Group.meet.Goals as goal
 
 pub returns-in_err-action : goal.returns-in_err-action
@@ -10,7 +11,6 @@ returns-in_err-action g c =
 
 pub returns : goal.returns
 returns g c =
-    met_by (whole g.C.Carrier.lanes g.K.Kind.book c.args.self.now) c.args.ends.from c.args.ends.at c.args.body.now c.args.message
-    (panel_of c.standing-before.result) _ _ _ c.standing-before.ensures
-    (short_ok (panel_of c.standing-before.result) c.args.ends.from c.args.ends.at c.args.message c.args.body.now _ _ c.requires.short c.in_ok-action.ensures)
-    c.act.ensures
+    let plain = short_ok (panel_of c.standing-before.result) c.args.ends.from c.args.ends.at c.args.message c.args.body.now _ _ c.requires.short c.in_ok-action.ensures in
+    let by_rule = met (whole g.C.Carrier.lanes g.K.Kind.book c.args.self.now) c.args.ends.from c.args.ends.at c.args.body.now c.args.message in
+    grind (arith, plain, by_rule)
