@@ -1,22 +1,13 @@
 -- The page of a book is lawful, and what one entry more makes of it. Assumes nothing.
-use Rattle.std.proofs.Common.{◌≡◌, ℕ, ◌+◌, ◌-◌, ◌<◌, ◌≤◌, Bool, true, false, cond, ltb, List, [], ◌∷◌, ◌++◌, length, get_or, take, drop, Ok, Err, fold, Result, sym, refl, ap, ◌∙◌, arith}
+use Rattle.std.proofs.Common.{◌≡◌, ℕ, ◌+◌, ◌-◌, ◌<◌, true, cond, List, [], ◌∷◌, ◌++◌, length, get_or, take, drop, Ok, Err, fold, Result, sym, refl, ap, ◌∙◌, arith}
 use Rattle.std.proofs.lemmas.List.{drop_at, take_at}
 use Rattle.std.proofs.lemmas.List.Sums.{fold_more}
-use Rattle.std.proofs.lemmas.Bool.{ltb-false}
 use Rattle.words.specs.declared.refusal.Refusal.{Refusal}
-use Rattle.words.specs.declared.refusal.Refusal.TheVariants.{SpaceTooShort, UnlawfulRow}
+use Rattle.words.specs.declared.refusal.Refusal.TheVariants.{UnlawfulRow}
 use Rattle.words.specs.declared.rule_number.RuleNumber.{RuleNumber}
-use Rattle.book.specs.Kinds.{Book, Kept, Sound, answered, applied, by_rule, opened, placed}
+use Rattle.book.specs.Kinds.{Book, Kept, Sound, answered, applied, by_rule}
 use Rattle.book.specs.Pages.{page, row_after}
-use Rattle.book.proofs.Answered.{Says, answered_ok}
-
--- a row that was put into a space, which was long enough
-pub placed_ok : (width : ℕ) (row space left : List ℕ) → placed width row space ≡ Ok left → (width ≤ length space) × (left ≡ row ++ drop width space)
-placed_ok width row space left = go (ltb (length space) width) refl
-  where
-    go : (t : Bool) → ltb (length space) width ≡ t → ◌≡◌ {A = Result (List ℕ) Refusal} (cond t (Err SpaceTooShort) (Ok (row ++ drop width space))) (Ok left) → (width ≤ length space) × (left ≡ row ++ drop width space)
-    go true t e = cc
-    go false t e = (ltb-false _ _ t, cc)
+use Rattle.book.proofs.Answered.{Says}
 
 -- the row that a call leaves of a lawful row
 pub row_left : (b : Book) (row left : List ℕ) (entry : ℕ) (r : Result (Unit {0}) Refusal) → b.lawful row ≡ true → Says row left r (applied b row entry) → left ≡ row_after row (b.rule row entry)
@@ -42,16 +33,6 @@ module _ (b : Book) (s : Sound b) where
 
   pub page_long : (entries : List ℕ) → length (page b entries) ≡ b.width
   page_long entries = s.long (page b entries) (page_lawful entries)
-
-  -- what lies past the opening row stays
-  behind : (space left : List ℕ) → left ≡ b.opening ++ drop b.width space → drop b.width left ≡ drop b.width space
-  behind space left is = ap (drop b.width) is ∙ drop_at b.opening (drop b.width space) b.width (page_long [])
-
-  -- the space before the first entry
-  pub page_none : (space left : List ℕ) (w : ℕ) → w ≡ b.width → Says space left (Ok tt) (opened b space) → left ≡ b.opening ++ drop w left
-  page_none space left w e told =
-      let put = (placed_ok b.width b.opening space left (answered_ok space left (opened b space) told)).1 in
-      put ∙ ap (λ l. b.opening ++ l) (sym (behind space left put) ∙ ap (λ n. drop n left) (sym e))
 
   -- one entry more
   pub page_more : (entries start space left : List ℕ) (i w : ℕ) (r : Result (Unit {0}) Refusal) → w ≡ b.width → i < length entries → space ≡ page b (take i entries) ++ drop w start

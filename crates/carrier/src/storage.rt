@@ -23,7 +23,7 @@ pub struct Packet {
 
 // The waiting parcels of one lane, in order of arrival.
 #[derive(Default, Drop)]
-pub struct Queue {
+pub(crate) struct Queue {
     pub(crate) packets: ArrayVec<Packet, LANE_ROOM>,
 }
 
