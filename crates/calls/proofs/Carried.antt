@@ -1,10 +1,9 @@
 -- A call that was performed is a call carried out. Assumes nothing.
-use Rattle.std.proofs.Common.{◌≡◌, ℕ, List, Result, sym, subst}
+use Rattle.std.proofs.Common.{ℕ, List, Result}
 use Rattle.words.specs.declared.event.Event.{Event}
 use Rattle.words.specs.declared.refusal.Refusal.{Refusal}
 use Rattle.arrow.specs.World.{World}
 use Rattle.arrow.specs.Runs.{CarriedOut}
-use Rattle.group.specs.Parts.{DeliveredOldest}
 use Rattle.calls.specs.Called.{call_of, oldest_call_of, Performed, PerformedOldest}
 use Rattle.calls.specs.declared.call.Call.{Call}
 use Rattle.calls.specs.declared.call.Call.TheVariants.{Open, Request, Deliver, Write, Release}
@@ -24,8 +23,3 @@ carried_oldest w (Request panel) spare r w' spare' p = p.0
 carried_oldest w (Deliver lane) spare r w' spare' p = p.0
 carried_oldest w (Write panel entry) spare r w' spare' p = p.0
 carried_oldest w (Release panel) spare r w' spare' p = p.0
-
--- a delivery of the oldest parcel, known to be that call
-pub delivered_oldest : (w : World) (call : Call) (spare : List ℕ) (r : Result Event Refusal) (w' : World) (spare' : List ℕ) (lane : ℕ)
-    → call ≡ Deliver lane → DeliveredOldest w lane spare (r, w') spare' → PerformedOldest w call spare r w' spare'
-delivered_oldest w call spare r w' spare' lane is d = subst (λ (x : Call). PerformedOldest w x spare r w' spare') (sym is) d
