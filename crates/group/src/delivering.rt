@@ -128,6 +128,7 @@ impl<C: Carrier, K: Kind> Group<C, K> {
 // Of the three calls of `deliver` one differs: a function that is lent that call would need a clause on it and be longer.
 impl<C: OldestFirst, K: Kind> Group<C, K> {
     // Takes the oldest parcel of a lane, and is else as `deliver`.
+    #[tactic(auto, using(std::proofs::lemmas::List::take_at))]
     pub fn deliver_oldest(&mut self, lane: usize, spare: &mut [u32]) -> Result<Event, Refusal>
         ensures { DeliveredOldest (whole C.lanes K.book self.old) lane spare.old (result, whole C.lanes K.book self.new) spare.new }
     {

@@ -53,6 +53,7 @@ impl<C: Carrier, K: Kind> Group<C, K> {
     }
 
     // What it has once it is open, or NotOpen.
+    #[tactic(auto, using(crate::proofs::Opened::open_has_panels))]
     pub(crate) fn opened(&self) -> Result<&Panels, Refusal>
         ensures { OpenTold (whole C.lanes K.book self.now) result }
     {

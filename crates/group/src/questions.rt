@@ -20,6 +20,7 @@ impl<C: Carrier, K: Kind> Group<C, K> {
     }
 
     // Whether the group is open.
+    #[tactic(auto, using(crate::proofs::Opened::open_has_panels))]
     pub fn is_open(&self) -> bool
         ensures { result ≡ is_open (whole C.lanes K.book self.now) }
     {
@@ -45,6 +46,7 @@ impl<C: Carrier, K: Kind> Group<C, K> {
     }
 
     // How many panels wait: the ones of that word.
+    #[tactic(auto, using(arrow::proofs::Mask::word_of_waiting))]
     pub fn waiting_count(&self) -> u32
         ensures { result ≡ how_many_wait self.now.panels }
     {
