@@ -55,7 +55,7 @@ fn perform_oldest<C: OldestFirst, K: Kind>(
     }
 }
 
-// As `carry_out`, where a delivery takes the oldest parcel.
+// As `carry_out`, where a delivery takes the oldest parcel. Two calls, since each has a law of its own and asks another carrier.
 pub fn carry_out_oldest<C: OldestFirst, K: Kind>(
     group: &mut Group<C, K>,
     call: Call,

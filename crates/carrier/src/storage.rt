@@ -7,7 +7,7 @@ use crate::traits::{LANE_ROOM, MOST_LANES};
 use arrayvec::ArrayVec;
 use words::body::Body;
 
-// An end of a lane: where its oldest or its newest parcel waits.
+// An end of a lane: where its oldest or its newest parcel waits. A value and no closure: the tray's contract names it.
 #[derive(Clone, Copy)]
 pub enum End {
     Oldest,

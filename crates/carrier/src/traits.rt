@@ -34,6 +34,7 @@ pub trait Carrier {
         ensures { Counted (lanes self.now) lane result };
 
     // Adds a parcel at the end of a lane. The first that applies: `NoSuchLane`, `BodyTooLong`, `LaneFull`.
+    // Head and body stand apart: a struct of them would ask more of each carrier, and the body is a lent slice.
     fn post(&mut self, lane: usize, head: u32, body: &[u32]) -> Result<(), Refusal>
         ensures { Posted (lanes self.old) lane head body.now result (lanes self.new) };
 

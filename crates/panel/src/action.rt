@@ -1,7 +1,7 @@
 // What a message makes a panel do.
 // Assumes nothing.
 
-// What is left to do for the group after a panel met a message.
+// What is left to do for the group after a panel met a message. A value and no closure: the contract of the panel's step names it.
 #[derive(Clone, Copy)]
 pub enum Action {
     // Send the asker's find word on along the arrow as it was.

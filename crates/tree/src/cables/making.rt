@@ -43,6 +43,7 @@ fn padded(list: &[usize]) -> [usize; MOST_PANELS]
 
 impl Tree {
     // The tree of a list of parents. An unlawful list is refused with UnlawfulTree.
+    // No TryFrom beside it: a second name for the only way to make a tree would be no plainer.
     pub fn new(list: &[usize]) -> Result<Tree, Refusal>
         ensures { MadeOf list.now result }
     {
