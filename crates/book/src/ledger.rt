@@ -21,11 +21,11 @@ const TOTAL: u32 = 16_000;
 
 const OPENING: [u32; ACCOUNTS] = [OPENING_BALANCE; ACCOUNTS];
 
-// The parts of an entry word.
-const TAG: Bits = Bits { low: 28, count: 4 };
-
 // The tag of a transfer. A constant: it is compared once, so an enum of one tag would say no more.
 const TRANSFER: u32 = 1;
+
+// The parts of an entry word.
+const TAG: Bits = Bits { low: 28, count: 4 };
 
 const PAYER: Bits = Bits { low: 24, count: 4 };
 

@@ -11,7 +11,7 @@ use group::Group;
 use words::event::Event;
 use words::refusal::Refusal;
 
-// Carries out a call.
+// Carries out a call. Group, call and spare words stand apart: a struct of lent parts would be made for one call only.
 fn perform<C: Carrier, K: Kind>(
     group: &mut Group<C, K>,
     call: Call,

@@ -7,7 +7,7 @@ pub use words::body::LONGEST_BODY;
 use words::refusal::Refusal;
 
 // What a take gave out: the parcel's head word, and how many words its body has.
-// The body has no memory here: it stands in the space that the caller lends.
+// A rule of the project: the body stands in the space that the caller lends, so it has no memory here.
 #[derive(Clone, Copy, PartialEq, Eq, Debug)]
 pub struct Received {
     pub head: u32,

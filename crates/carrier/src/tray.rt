@@ -20,8 +20,8 @@ const HIGHEST_BIT: u32 = 31;
 
 // A carrier with one number for all its lanes, which decides which parcel a take gives. A take that is
 // refused leaves it.
-// Count and post call the storage as those of the line do: one carrier over a trait of choosers would be
-// a trait, its two impls and a generic struct in place of these four calls.
+// Count and post call the storage as those of the line do: one carrier over a trait of choosers would be a trait, its two impls and a
+// generic struct in place of four calls, two here and two there.
 #[derive(Drop)]
 pub struct Tray {
     storage: Storage,

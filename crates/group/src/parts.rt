@@ -115,6 +115,7 @@ impl<C: Carrier, K: Kind> Group<C, K> {
     }
 
     // The lane from a panel to its neighbour. A group that is not open has no panel.
+    // Two lines, as `first_step`: a call for the line that they share would need a contract longer than both.
     fn lane(&self, from: usize, to: usize) -> Result<usize, Refusal>
         ensures { result ≡ lane_answer self.now.tree from to }
     {

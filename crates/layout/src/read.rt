@@ -16,7 +16,7 @@ pub fn parents(heap: Global, line: &[u8]) -> Result<Vec<usize>, Fault>
     ensures { Reads (layout_of line.now) result }
 {
     if line.len() > LONGEST_LINE {
-        return Err(Fault::Refused(Refusal::BadLine));
+        return Err(Refusal::BadLine.into());
     }
     numbers(heap, line)
 }

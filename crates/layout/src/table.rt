@@ -68,6 +68,7 @@ impl fmt::Display for Table<'_> {
     fn fmt<W: fmt::Write>(&self, f: &mut fmt::Formatter<W>) -> fmt::Result {
         let panels = self.0.panels();
         writeln!(f, "panels {panels} farthest {}", self.farthest())?;
+        // A `for`: what a chain of `for_each` writes, the check does not know.
         for panel in 0..panels {
             write!(f, "{}", self.row(panel))?;
         }
@@ -81,6 +82,7 @@ impl fmt::Display for Row<'_> {
     fn fmt<W: fmt::Write>(&self, f: &mut fmt::Formatter<W>) -> fmt::Result {
         let panel = self.panel;
         write!(f, "{panel:2}:")?;
+        // A `for`, as for the rows.
         for to in 0..self.tree.panels() {
             write!(f, " {:2}", self.steps(to))?;
         }

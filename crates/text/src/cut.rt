@@ -1,4 +1,4 @@
-// Cutting bytes at one of them: a line at its spaces, a text at the ends of its lines.
+// Where bytes are cut: at the first place of one of them, as a line at a space.
 // Assumes nothing.
 ghost use Rattle.std.specs.Prelude.{◌≡◌, ℕ, ◌<◌, ◌≤◌, length, ◌≢◌, slice_index};
 

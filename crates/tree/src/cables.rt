@@ -4,10 +4,10 @@ ghost use Rattle.std.specs.Prelude.{◌≡◌, ◌≤◌, true, length, take};
 ghost use Rattle.tree.specs.Tree.{lawful_tree, most_panels};
 
 // The most panels that a group has.
-pub const MOST_PANELS: usize = 32;
+pub use words::fields::PANELS as MOST_PANELS;
 
 // A lawful tree: its first `count` entries are the list of parents, and the entries after them mean nothing.
-// An array with a count: the type is Copy, which an ArrayVec is not.
+// An array with a count: the type is Copy for callers, which an ArrayVec is not.
 #[derive(Clone, Copy)]
 pub struct Tree {
     count: usize,

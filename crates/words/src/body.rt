@@ -9,7 +9,7 @@ use crate::refusal::Refusal;
 pub const LONGEST_BODY: usize = 32;
 
 // The first `size` words of the memory; the others mean nothing.
-// An array with a count: the type is Copy, which an ArrayVec is not.
+// An array with a count: parcels, rows and panels are Copy for callers, which an ArrayVec is not.
 #[derive(Clone, Copy)]
 pub struct Body {
     pub size: usize,

@@ -69,6 +69,7 @@ pub enum Event {
 
 impl Event {
     // The first word of an event; one with a field out of its range has none.
+    #[tactic(auto, using(crate::proofs::Events::read_back))]
     pub fn word(self) -> Result<u32, Refusal>
         ensures answer { result ≡ event_word self }
         ensures law { EventsReadBack }

@@ -33,7 +33,7 @@ pub(crate) fn all_printable(bytes: &[u8]) -> bool
     bytes.iter().all(|byte| is_printable(*byte))
 }
 
-// Whether all bytes are 0.
+// Whether all bytes are 0. Apart from the other test: with both chains in one function the check leaves a goal open.
 pub(crate) fn all_blank(bytes: &[u8]) -> bool
     ensures { result ≡ list_all blank bytes.now }
 {

@@ -41,12 +41,13 @@ fn padded(list: &[usize]) -> [usize; MOST_PANELS]
     entries
 }
 
-impl Tree {
-    // The tree of a list of parents. An unlawful list is refused with UnlawfulTree.
-    // No TryFrom beside it: a second name for the only way to make a tree would be no plainer.
-    pub fn new(list: &[usize]) -> Result<Tree, Refusal>
-        ensures { MadeOf list.now result }
-    {
+// The tree of a list of parents, or UnlawfulTree.
+impl TryFrom<&[usize]> for Tree {
+    type Error = Refusal;
+
+    ghost try_from_gives = { λ list tree. MadeOf list.now tree };
+
+    fn try_from(list: &[usize]) -> Result<Tree, Refusal> {
         if !is_lawful(list) {
             return Err(Refusal::UnlawfulTree);
         }
@@ -54,6 +55,15 @@ impl Tree {
             count: list.len(),
             entries: padded(list),
         })
+    }
+}
+
+impl Tree {
+    // The tree of a list of parents. An unlawful list is refused with UnlawfulTree.
+    pub fn new(list: &[usize]) -> Result<Tree, Refusal>
+        ensures { MadeOf list.now result }
+    {
+        Tree::try_from(list)
     }
 
     // The list of parents.
