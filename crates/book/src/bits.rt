@@ -11,6 +11,9 @@ pub struct Bits {
     ghost narrow: { count < 32 },
 }
 
+// The tag of an entry word of any kind of this repository: its highest four bits.
+pub const TAG: Bits = Bits { low: 28, count: 4 };
+
 impl Bits {
     // The number that they hold.
     pub fn of(self, word: u32) -> u32

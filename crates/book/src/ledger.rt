@@ -6,7 +6,7 @@ ghost use Rattle.book.specs.Ledgers.{ledger_book, ledger_entry, ledger_lawful, l
 ghost use Rattle.book.specs.Transfers.{AcceptedEntriesPay};
 ghost use Rattle.book.specs.LedgersLemmas.{ledger_sound};
 
-use crate::bits::Bits;
+use crate::bits::{Bits, TAG};
 use crate::fault::Fault;
 use crate::kind::Kind;
 use words::body::lay;
@@ -25,8 +25,6 @@ const OPENING: [u32; ACCOUNTS] = [OPENING_BALANCE; ACCOUNTS];
 const TRANSFER: u32 = 1;
 
 // The parts of an entry word.
-const TAG: Bits = Bits { low: 28, count: 4 };
-
 const PAYER: Bits = Bits { low: 24, count: 4 };
 
 const PAYEE: Bits = Bits { low: 20, count: 4 };

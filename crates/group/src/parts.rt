@@ -123,7 +123,7 @@ impl<C: Carrier, K: Kind> Group<C, K> {
         panels.tree.lane(from, to)
     }
 
-    // Sends a message with a body from a panel to its neighbour.
+    // Sends a message with a body from a panel to its neighbour. The two stand apart: the body is a lent slice, and a find word has none.
     pub(crate) fn send(
         &mut self,
         from: usize,

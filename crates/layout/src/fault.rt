@@ -13,6 +13,7 @@ pub enum Fault {
     NoMemory(AllocError),
 }
 
+// By hand: contracts name what a `?` makes, and a derived From has no contract.
 impl From<Refusal> for Fault {
     ghost from_gives = { λ e r. r ≡ Refused e };
 

@@ -3,7 +3,7 @@
 ghost use Rattle.std.specs.Prelude.{◌≡◌};
 ghost use Rattle.notice_book.specs.Notices.{notice_entry};
 
-use book::bits::Bits;
+use book::bits::{Bits, TAG};
 use book::fault::Fault;
 
 // The two tags. Constants: they are matched once, where the entry is made, so an enum of tags would be made only to be matched again.
@@ -12,8 +12,6 @@ const INSERT: u32 = 2;
 const DELETE: u32 = 3;
 
 // The parts of an entry word.
-const TAG: Bits = Bits { low: 28, count: 4 };
-
 const PLACE: Bits = Bits { low: 20, count: 8 };
 
 const BYTE: Bits = Bits { low: 0, count: 8 };
