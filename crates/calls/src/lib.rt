@@ -5,3 +5,5 @@
 pub mod call;
 pub mod carry;
 pub mod list;
+#[cfg(test)]
+mod tests;
