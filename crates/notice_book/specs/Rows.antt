@@ -1,10 +1,11 @@
--- The row of a text that stands before zeros. Assumes nothing.
-use Rattle.std.specs.Prelude.{◌≡◌, ℕ, ◌-◌, ◌≤◌, true, List, [], ◌∷◌, ◌++◌, length, take, drop, replicate, refl}
-use Rattle.std.proofs.Common.{sym, ap, ◌∙◌, arith, length-drop}
+-- The row of a text that stands before zeros, and a row by its words. Assumes nothing.
+use Rattle.std.specs.Prelude.{◌≡◌, ℕ, zero, suc, ◌+◌, ◌-◌, ◌<◌, ◌≤◌, true, List, [], ◌∷◌, ◌++◌, length, take, drop, replicate, slice_index, refl}
+use Rattle.std.proofs.Common.{sym, ap, ◌∙◌, arith, add-one, length-drop}
 use Rattle.std.specs.List.{list_all}
-use Rattle.std.proofs.lemmas.List.{length-take-le, take-append-drop}
+use Rattle.std.proofs.lemmas.List.{ext_get_or, length-take-le, take-append-drop}
 use Rattle.std.proofs.lemmas.Bool.{and_parts, eqb-true}
 use Rattle.notice_book.specs.Bytes.{blank, row_of, words_of}
+use Rattle.notice_book.specs.Packing.{length_words}
 
 zeros : (bs : List ℕ) → list_all blank bs ≡ true → bs ≡ replicate (length bs) 0
 zeros [] h = refl
@@ -17,3 +18,11 @@ row_before_zeros size bytes short long h =
     let left : 64 - length (take size bytes) ≡ length (drop size bytes) = omega (arith, length-drop size bytes) in
     let whole : take size bytes ++ replicate (64 - length (take size bytes)) 0 ≡ bytes = ap (λ n. take size bytes ++ replicate n 0) left ∙ ap (λ l. take size bytes ++ l) (sym (zeros (drop size bytes) h)) ∙ take-append-drop size bytes in
     λ i. front i ∷ words_of (whole i)
+
+-- a row by its words, one by one
+pub row_is : (row bytes : List ℕ) (size : ℕ) → length row ≡ 17 → length bytes ≡ 64 → slice_index row 0 ≡ size → ((j : ℕ) → j < 16 → slice_index row (j + 1) ≡ slice_index (words_of bytes) j) → row ≡ size ∷ words_of bytes
+row_is row bytes size long full first others = ext_get_or 0 row (size ∷ words_of bytes) (omega (arith, length_words bytes)) at
+  where
+    at : (k : ℕ) → k < length row → slice_index row k ≡ slice_index (size ∷ words_of bytes) k
+    at zero h = first
+    at (suc j) h = rw add-one at (others j (omega arith))
