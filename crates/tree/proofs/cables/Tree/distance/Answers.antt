@@ -1,4 +1,4 @@
--- Each turn climbs one cable of the path, and at the end the two panels have met. Assumes nothing.
+-- The law of paths, which each return states. Assumes nothing.
 use Rattle.tree.proofs.Laws.{only_path_law}
 use Rattle.tree.proofs.cables.Tree.distance.Goals as goal
 

@@ -1,4 +1,4 @@
--- The loop climbs from `to` until the next panel up is `from`, or is smaller and the path begins upwards. Assumes nothing.
+-- The law of the nearer neighbour, which each return states. Assumes nothing.
 use Rattle.tree.proofs.Laws.{nearer_law}
 use Rattle.tree.proofs.cables.Tree.first_step.Goals as goal
 
