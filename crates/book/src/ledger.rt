@@ -3,7 +3,7 @@
 ghost use Rattle.std.specs.Prelude.{◌≡◌, true};
 ghost use Rattle.book.specs.Kinds.{answered, applied};
 ghost use Rattle.book.specs.Ledgers.{ledger_book, ledger_entry, ledger_lawful, ledger_made};
-ghost use Rattle.book.specs.Transfers.{AcceptedEntriesPay};
+ghost use Rattle.book.specs.Transfers.{AcceptedEntriesPay, Few};
 ghost use Rattle.book.specs.LedgersLemmas.{ledger_sound};
 
 use crate::bits::{Bits, TAG};
@@ -71,9 +71,10 @@ impl LedgerEntry {
     }
 }
 
-// Whether a row is lawful. A rule of the project: the balances are added in a loop, in 64 bits, where sixteen words cannot wrap.
+// Whether a row is lawful. The sum is taken in 64 bits, where sixteen words cannot wrap, by a loop whose invariant bounds it.
 fn is_lawful(row: &[u32]) -> bool
-    ensures { result ≡ ledger_lawful row.now }
+    ensures answer { result ≡ ledger_lawful row.now }
+    ensures few { result ≡ true → Few row.now }
 {
     if row.len() != ACCOUNTS {
         return false;
