@@ -1,11 +1,16 @@
--- The row of a text that stands before zeros, and a row by its words. Assumes nothing.
+-- The text of a row by its words, the row of a text that stands before zeros, and a row by its words. Assumes nothing.
 use Rattle.std.specs.Prelude.{◌≡◌, ℕ, zero, suc, ◌+◌, ◌-◌, ◌<◌, ◌≤◌, true, List, [], ◌∷◌, ◌++◌, length, take, drop, replicate, slice_index, refl}
 use Rattle.std.proofs.Common.{sym, ap, ◌∙◌, arith, add-one, length-drop}
-use Rattle.std.specs.List.{list_all}
+use Rattle.std.specs.List.{between, list_all}
 use Rattle.std.proofs.lemmas.List.{ext_get_or, length-take-le, take-append-drop}
 use Rattle.std.proofs.lemmas.Bool.{and_parts, eqb-true}
-use Rattle.notice_book.specs.Bytes.{blank, row_of, words_of}
+use Rattle.std.proofs.lemmas.Slice.{first_rest}
+use Rattle.notice_book.specs.Bytes.{blank, bytes_of, row_of, text, words_of}
 use Rattle.notice_book.specs.Packing.{length_words}
+
+-- the text of a row, by its length word and the bytes of its text words
+pub row_text : (row bytes : List ℕ) → 0 < length row → bytes ≡ bytes_of (between 1 (length row) row) → take (slice_index row 0) bytes ≡ text row
+row_text row bytes some is = ap (take (slice_index row 0)) is ∙ sym (ap text (first_rest row 0 some))
 
 zeros : (bs : List ℕ) → list_all blank bs ≡ true → bs ≡ replicate (length bs) 0
 zeros [] h = refl
