@@ -18,13 +18,24 @@ fn word(answer: Result<Event, Refusal>) -> Result<u32, Refusal> {
     answer?.word()
 }
 
+// A mark for each panel: that a group has no more than 32 is known of every group.
+fn marks<C: Carrier, K: Kind>(group: &Group<C, K>) -> [bool; 32] {
+    let mut marks = [false; 32];
+    for v in 0..group.panels() {
+        marks[v] = true;
+    }
+    marks
+}
+
 #[test]
 fn at_most_32_panels(rt: HostRuntime) -> Result<(), Fail> {
     let mut group = Group::new(Line::new(62)?, Ledger);
     assert_eq!(rt; word(group.open(&[0; 33])), Err(Refusal::UnlawfulTree));
     assert!(rt; !group.is_open());
+    assert_eq!(rt; marks(&group), [false; 32]);
     assert_eq!(rt; word(group.open(&[0; 32])), Ok(0x3f80_0000));
     assert_eq!(rt; group.panels(), 32);
+    assert_eq!(rt; marks(&group), [true; 32]);
     assert_eq!(rt; word(group.request(31)), Ok(0x4f80_0000));
     assert_eq!(rt; group.waiting(), 0x8000_0000);
     assert_eq!(rt; word(group.open(&[0])), Err(Refusal::AlreadyOpen));

@@ -1,4 +1,5 @@
 pub mod Opened
 pub mod Openings
+pub mod Sizes
 pub mod Steps
 pub mod Waits

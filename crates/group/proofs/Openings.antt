@@ -8,7 +8,8 @@ use Rattle.arrow.specs.World.{Panel, World}
 use Rattle.arrow.specs.Rules.{first_panel, opening_panels}
 use Rattle.group.specs.Parts.{idle_with}
 
-opening_is : (w : World) (ps row zeros : List ℕ) → 0 < length ps → row ≡ w.kind.opening → zeros ≡ replicate w.kind.width 0
+-- panel 0 rests with the opening row
+pub opening_is : (w : World) (ps row zeros : List ℕ) → 0 < length ps → row ≡ w.kind.opening → zeros ≡ replicate w.kind.width 0
     → set (map (idle_with zeros) ps) 0 (record { arrow = 0; state = Resting; follower = None; row = row }) ≡ opening_panels w ps
 opening_is w [] row zeros some e z = (let no : ⊥ = omega arith in absurd no)
 opening_is w (root ∷ parents) row zeros some e z =

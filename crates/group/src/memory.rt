@@ -32,7 +32,7 @@ impl<C, K> Model for Group<C, K> {
 
     ghost Value = { Seen C K };
 
-    ghost use Rattle.group.specs.Memory.{tree_of, panels_of};
+    ghost use Rattle.group.specs.Memory.{tree_of, panels_of, tree_lawful, as_many};
 
     ghost view = { λ g. record {
       carrier = g.carrier;
@@ -40,5 +40,7 @@ impl<C, K> Model for Group<C, K> {
       tree = tree_of g.panels;
       panels = panels_of g.panels;
       counts = g.counts;
+      lawful = tree_lawful g.panels;
+      as_many = as_many g.panels;
     } };
 }
