@@ -1,5 +1,5 @@
 pub mod Opened
 pub mod Openings
-pub mod Sizes
+pub mod Stored
 pub mod Steps
 pub mod Waits

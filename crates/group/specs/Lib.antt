@@ -1,4 +1,3 @@
-pub mod Seen
 pub mod Memory
 pub mod Whole
 pub mod Parts

@@ -25,7 +25,7 @@ use Rattle.panel.specs.Steps.{panel_of}
 
 -- what an open group has, or NotOpen
 abbrev pub OpenTold : World → Result (Bor Panels) Refusal → Type 0
-OpenTold w (Ok panels) = (is_open w ≡ true) × (parents panels.now.tree ≡ w.tree) × (map panel_of panels.now.each.items ≡ w.panels)
+OpenTold w (Ok panels) = (is_open w ≡ true) × (parents panels.now.tree ≡ w.tree) × (map panel_of (take (length (parents panels.now.tree)) panels.now.each) ≡ w.panels)
 OpenTold w (Err e) = (is_open w ≡ false) × (e ≡ NotOpen)
 
 -- a panel, or why every call on it and every read of it is refused

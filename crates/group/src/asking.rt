@@ -24,7 +24,7 @@ impl<C: Carrier, K: Kind> Group<C, K> {
         let panel = self.panel(v)?;
         match panel.state {
             State::Waiting | State::Holding => Err(Refusal::Engaged),
-            _ if self.counts.requests >= REQUEST_LIMIT => Err(Refusal::RequestLimit),
+            _ if self.core.counts.requests >= REQUEST_LIMIT => Err(Refusal::RequestLimit),
             State::Resting => {
                 self.store(
                     v,
@@ -33,8 +33,8 @@ impl<C: Carrier, K: Kind> Group<C, K> {
                         ..panel
                     },
                 );
-                count(&mut self.counts.requests);
-                count(&mut self.counts.grants);
+                count(&mut self.core.counts.requests);
+                count(&mut self.core.counts.grants);
                 Ok(Event::Granted { panel: v, from: v })
             }
             State::Idle => {
@@ -48,8 +48,8 @@ impl<C: Carrier, K: Kind> Group<C, K> {
                         ..panel
                     },
                 );
-                count(&mut self.counts.requests);
-                count(&mut self.counts.finds);
+                count(&mut self.core.counts.requests);
+                count(&mut self.core.counts.finds);
                 Ok(Event::Asked { panel: v, to })
             }
         }

@@ -46,7 +46,7 @@ impl<C: Carrier, K: Kind> Group<C, K> {
     {
         self.send(at, to, Message::Find { asker }, &[])?;
         self.store(at, after);
-        count(&mut self.counts.finds);
+        count(&mut self.core.counts.finds);
         Ok(Event::Passed { asker, at, to })
     }
 
@@ -56,7 +56,7 @@ impl<C: Carrier, K: Kind> Group<C, K> {
     {
         let to = self.first_step(at, addressee)?;
         self.send(at, to, Message::Book { addressee }, body)?;
-        count(&mut self.counts.books);
+        count(&mut self.core.counts.books);
         Ok(Event::Moved { addressee, at, to })
     }
 
@@ -85,7 +85,7 @@ impl<C: Carrier, K: Kind> Group<C, K> {
             }
             Action::Hold => {
                 self.store(at, after);
-                count(&mut self.counts.grants);
+                count(&mut self.core.counts.grants);
                 Ok(Event::Granted { panel: at, from })
             }
             Action::MoveOn { addressee } => self.move_on(at, addressee, body),

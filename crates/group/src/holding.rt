@@ -32,7 +32,7 @@ impl<C: Carrier, K: Kind> Group<C, K> {
         let step = self.first_step(from, to)?;
         self.send(from, step, Message::Book { addressee: to }, row.words())?;
         self.store(from, after);
-        count(&mut self.counts.books);
+        count(&mut self.core.counts.books);
         Ok(())
     }
 
@@ -60,7 +60,7 @@ impl<C: Carrier, K: Kind> Group<C, K> {
                 }
             }
         };
-        count(&mut self.counts.releases);
+        count(&mut self.core.counts.releases);
         Ok(event)
     }
 

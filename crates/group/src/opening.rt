@@ -1,14 +1,14 @@
 // Open: the tree, and the panels as they stand at first.
 // Assumes nothing.
-ghost use Rattle.std.specs.Prelude.{◌≡◌, map};
+ghost use Rattle.std.specs.Prelude.{◌≡◌, map, length, take};
 ghost use Rattle.arrow.specs.Rules.{open_call, opened_world};
 ghost use Rattle.group.specs.Parts.{idle_with};
 ghost use Rattle.group.specs.Whole.{whole};
 ghost use Rattle.panel.specs.Steps.{panel_of, row_words};
 ghost use Rattle.tree.specs.Answers.{parents};
+ghost use Rattle.tree.specs.Tree.{most_panels};
 
 use crate::memory::{Group, Panels};
-use arrayvec::ArrayVec;
 use arrow::state::State;
 use book::kind::Kind;
 use carrier::traits::{Carrier, any_waiting};
@@ -19,17 +19,22 @@ use words::event::Event;
 use words::refusal::Refusal;
 
 // Idle panels with a row, whose arrows point to their parents.
-fn idle_panels(tree: &Tree, row: Row) -> ArrayVec<Panel, MOST_PANELS>
-    ensures { map panel_of result.items ≡ map (idle_with (row_words row)) (parents tree.now) }
+fn idle_panels(tree: &Tree, row: Row) -> [Panel; MOST_PANELS]
+    ensures front { map panel_of (take (length (parents tree.now)) result) ≡ map (idle_with (row_words row)) (parents tree.now) }
+    ensures long { length result ≡ most_panels }
 {
-    let mut panels = ArrayVec::new();
-    for arrow in tree.parents() {
-        panels.push(Panel {
-            arrow: *arrow,
-            state: State::Idle,
-            follower: None,
-            row,
-        });
+    let idle = Panel {
+        arrow: 0,
+        state: State::Idle,
+        follower: None,
+        row,
+    };
+    let mut panels = [idle; MOST_PANELS];
+    for v in 0..tree.panels() {
+        panels[v] = Panel {
+            arrow: tree.parent(v),
+            ..idle
+        };
     }
     panels
 }
@@ -51,7 +56,7 @@ impl<C: Carrier, K: Kind> Group<C, K> {
                 row,
             },
         );
-        self.panels = Some(panels);
+        self.core.panels = Some(panels);
     }
 
     // Opens the group over a lent list of parents: panel 0 rests with the opening row; each other panel is idle, its arrow points to its

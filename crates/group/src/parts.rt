@@ -1,16 +1,17 @@
 // What the calls on a group are made of: what it has once it is open, a panel, a panel that holds, a panel stored, a message sent.
 // Assumes nothing.
-ghost use Rattle.std.specs.Prelude.{◌≡◌, ◌≤◌, [], length, map, slice_set};
+ghost use Rattle.std.specs.Prelude.{◌≡◌, ◌≤◌, [], length, map, take, slice_set, Some};
 ghost use Rattle.arrow.specs.Rules.{more, with_panel};
 ghost use Rattle.arrow.specs.Runs.{Run};
 ghost use Rattle.arrow.specs.World.{new_world, panel_at};
 ghost use Rattle.group.specs.Parts.{OpenTold, PanelTold, HolderTold, SentOut};
+ghost use Rattle.group.specs.Memory.{panels_of};
 ghost use Rattle.group.specs.Whole.{whole};
 ghost use Rattle.panel.specs.Steps.{panel_of};
-ghost use Rattle.tree.specs.Answers.{first_step_answer, lane_answer};
+ghost use Rattle.tree.specs.Answers.{parents, first_step_answer, lane_answer};
 ghost use Rattle.tree.specs.Tree.{most_panels};
 
-use crate::memory::{Group, Panels};
+use crate::memory::{Core, Group, Panels};
 use arrow::counts::Counts;
 use arrow::state::State;
 use book::kind::Kind;
@@ -27,13 +28,21 @@ pub(crate) fn count(counter: &mut u32)
 }
 
 impl Panels {
+    // The panels, as many as the tree has.
+    pub(crate) fn each(&self) -> &[Panel]
+        ensures { result.now ≡ take (length (parents self.now.tree)) self.now.each }
+    {
+        &self.each[..self.tree.panels()]
+    }
+
     // Stores a panel at its place; where there is no such place, nothing changes.
+    #[tactic(auto, using(crate::proofs::Stored::stored_at))]
     pub(crate) fn store(&mut self, v: usize, panel: Panel)
         ensures tree { self.new.tree ≡ self.old.tree }
-        ensures each { self.new.each.items ≡ slice_set self.old.each.items v panel }
+        ensures each { panels_of (Some self.new) ≡ slice_set (panels_of (Some self.old)) v (panel_of panel) }
     {
-        if let Some(place) = self.each.get_mut(v) {
-            *place = panel;
+        if v < self.tree.panels() {
+            self.each[v] = panel;
         }
     }
 }
@@ -47,8 +56,10 @@ impl<C: Carrier, K: Kind> Group<C, K> {
         Group {
             carrier,
             kind,
-            counts: Counts::default(),
-            panels: None,
+            core: Core {
+                counts: Counts::default(),
+                panels: None,
+            },
         }
     }
 
@@ -57,18 +68,19 @@ impl<C: Carrier, K: Kind> Group<C, K> {
     pub(crate) fn opened(&self) -> Result<&Panels, Refusal>
         ensures { OpenTold (whole C.lanes K.book self.now) result }
     {
-        self.panels.as_ref().ok_or(Refusal::NotOpen)
+        self.core.panels.as_ref().ok_or(Refusal::NotOpen)
     }
 
     // The panels, none while the group is not open.
     pub(crate) fn each(&self) -> &[Panel]
-        ensures same { map panel_of result.now ≡ self.now.panels }
-        ensures as_many { length result.now ≡ length self.now.tree }
+        ensures same { map panel_of result.now ≡ (whole C.lanes K.book self.now).panels }
+        ensures as_many { length result.now ≡ length (whole C.lanes K.book self.now).tree }
         ensures few { length result.now ≤ most_panels }
     {
-        self.panels
+        self.core
+            .panels
             .as_ref()
-            .map_or(&[], |panels| panels.each.as_slice())
+            .map_or(&[], |panels| panels.each())
     }
 
     // A panel as it is now: NotOpen, or NoSuchPanel.
@@ -76,7 +88,7 @@ impl<C: Carrier, K: Kind> Group<C, K> {
         ensures { PanelTold (whole C.lanes K.book self.now) v result }
     {
         let panels = self.opened()?;
-        panels.each.get(v).copied().ok_or(Refusal::NoSuchPanel)
+        panels.each().get(v).copied().ok_or(Refusal::NoSuchPanel)
     }
 
     // A panel, or a blank one where there is none.
@@ -101,25 +113,25 @@ impl<C: Carrier, K: Kind> Group<C, K> {
     pub(crate) fn store(&mut self, v: usize, panel: Panel)
         ensures { whole C.lanes K.book self.new ≡ with_panel (whole C.lanes K.book self.old) v (panel_of panel) }
     {
-        if let Some(panels) = &mut self.panels {
+        if let Some(panels) = &mut self.core.panels {
             panels.store(v, panel);
         }
     }
 
     // The first step from a panel to another. A group that is not open has no panel.
     pub(crate) fn first_step(&self, from: usize, to: usize) -> Result<usize, Refusal>
-        ensures { result ≡ first_step_answer self.now.tree from to }
+        ensures { result ≡ first_step_answer (whole C.lanes K.book self.now).tree from to }
     {
-        let panels = self.panels.as_ref().ok_or(Refusal::NoSuchPanel)?;
+        let panels = self.core.panels.as_ref().ok_or(Refusal::NoSuchPanel)?;
         panels.tree.first_step(from, to)
     }
 
     // The lane from a panel to its neighbour. A group that is not open has no panel.
     // Two lines, as `first_step`: a call for the line that they share would need a contract longer than both.
     fn lane(&self, from: usize, to: usize) -> Result<usize, Refusal>
-        ensures { result ≡ lane_answer self.now.tree from to }
+        ensures { result ≡ lane_answer (whole C.lanes K.book self.now).tree from to }
     {
-        let panels = self.panels.as_ref().ok_or(Refusal::NoSuchPanel)?;
+        let panels = self.core.panels.as_ref().ok_or(Refusal::NoSuchPanel)?;
         panels.tree.lane(from, to)
     }
 

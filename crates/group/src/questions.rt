@@ -15,9 +15,9 @@ use carrier::traits::Carrier;
 impl<C: Carrier, K: Kind> Group<C, K> {
     // Requests accepted, find words sent, book words sent, grants, releases accepted.
     pub fn counts(&self) -> Counts
-        ensures { result ≡ self.now.counts }
+        ensures { result ≡ (whole C.lanes K.book self.now).counts }
     {
-        self.counts
+        self.core.counts
     }
 
     // Whether the group is open.
@@ -25,12 +25,12 @@ impl<C: Carrier, K: Kind> Group<C, K> {
     pub fn is_open(&self) -> bool
         ensures { result ≡ is_open (whole C.lanes K.book self.now) }
     {
-        self.panels.is_some()
+        self.core.panels.is_some()
     }
 
     // How many panels there are, none while the group is not open, and 32 at most.
     pub fn panels(&self) -> usize
-        ensures answer { result ≡ length self.now.tree }
+        ensures answer { result ≡ length (whole C.lanes K.book self.now).tree }
         ensures within { result ≤ most_panels }
     {
         self.each().len()
@@ -38,7 +38,7 @@ impl<C: Carrier, K: Kind> Group<C, K> {
 
     // Which panels wait, as one word: bit v is that of panel v. None while the group is not open.
     pub fn waiting(&self) -> u32
-        ensures { result ≡ waiting_word self.now.panels }
+        ensures { result ≡ waiting_word (whole C.lanes K.book self.now).panels }
     {
         let mut word: u32 = 0;
         for (v, panel) in self.each().iter().enumerate() {
@@ -50,7 +50,7 @@ impl<C: Carrier, K: Kind> Group<C, K> {
     // How many panels wait: the ones of that word.
     #[tactic(auto, using(arrow::proofs::Mask::word_of_waiting))]
     pub fn waiting_count(&self) -> u32
-        ensures { result ≡ how_many_wait self.now.panels }
+        ensures { result ≡ how_many_wait (whole C.lanes K.book self.now).panels }
     {
         self.waiting().count_ones()
     }
