@@ -42,6 +42,19 @@ fn at_most_32_panels(rt: HostRuntime) -> Result<(), Fail> {
     Ok(())
 }
 
+// A type that leads back to itself through a group: that there may be one is what is tested.
+#[derive(Drop)]
+struct Nested {
+    below: Option<Box<Group<Line, Nested>>>,
+}
+
+#[test]
+fn groups_nest(rt: HostRuntime) -> Result<(), Fail> {
+    let innermost = Nested { below: None };
+    assert!(rt; innermost.below.is_none());
+    Ok(())
+}
+
 #[test]
 fn one_panel(rt: HostRuntime) -> Result<(), Fail> {
     let mut group = Group::new(Line::new(0)?, Ledger);
