@@ -18,6 +18,19 @@ fn word(answer: Result<Event, Refusal>) -> Result<u32, Refusal> {
     answer?.word()
 }
 
+#[test]
+fn at_most_32_panels(rt: HostRuntime) -> Result<(), Fail> {
+    let mut group = Group::new(Line::new(62)?, Ledger);
+    assert_eq!(rt; word(group.open(&[0; 33])), Err(Refusal::UnlawfulTree));
+    assert!(rt; !group.is_open());
+    assert_eq!(rt; word(group.open(&[0; 32])), Ok(0x3f80_0000));
+    assert_eq!(rt; group.panels(), 32);
+    assert_eq!(rt; word(group.request(31)), Ok(0x4f80_0000));
+    assert_eq!(rt; group.waiting(), 0x8000_0000);
+    assert_eq!(rt; word(group.open(&[0])), Err(Refusal::AlreadyOpen));
+    Ok(())
+}
+
 // A mark for each panel: that a group has no more than 32 is known of every group.
 fn marks<C: Carrier, K: Kind>(group: &Group<C, K>) -> [bool; 32] {
     let mut marks = [false; 32];
@@ -28,17 +41,11 @@ fn marks<C: Carrier, K: Kind>(group: &Group<C, K>) -> [bool; 32] {
 }
 
 #[test]
-fn at_most_32_panels(rt: HostRuntime) -> Result<(), Fail> {
+fn every_panel_has_a_mark(rt: HostRuntime) -> Result<(), Fail> {
     let mut group = Group::new(Line::new(62)?, Ledger);
-    assert_eq!(rt; word(group.open(&[0; 33])), Err(Refusal::UnlawfulTree));
-    assert!(rt; !group.is_open());
     assert_eq!(rt; marks(&group), [false; 32]);
-    assert_eq!(rt; word(group.open(&[0; 32])), Ok(0x3f80_0000));
-    assert_eq!(rt; group.panels(), 32);
+    group.open(&[0; 32])?;
     assert_eq!(rt; marks(&group), [true; 32]);
-    assert_eq!(rt; word(group.request(31)), Ok(0x4f80_0000));
-    assert_eq!(rt; group.waiting(), 0x8000_0000);
-    assert_eq!(rt; word(group.open(&[0])), Err(Refusal::AlreadyOpen));
     Ok(())
 }
 
