@@ -3,3 +3,5 @@ pub mod Loopback
 pub mod Parcels
 pub mod Stored
 pub mod Stores
+pub mod Queues
+pub mod Rings

@@ -1,5 +1,5 @@
 -- What the storage of a carrier means: the parcels that it holds. Assumes nothing.
-use Rattle.std.specs.Prelude.{◌≡◌, ℕ, ◌-◌, ◌<◌, ◌≤◌, cond, List, [], ◌∷◌, ◌++◌, map, length, replicate, Some, None, Ok, Err, Option, Result, nat_lt}
+use Rattle.std.specs.Prelude.{◌≡◌, ℕ, ◌-◌, ◌<◌, ◌≤◌, cond, List, [], ◌∷◌, ◌++◌, map, length, take, drop, replicate, Some, None, Ok, Err, Option, Result, nat_lt}
 use Rattle.carrier.specs.Parcels.{Parcel, Lanes, longest_body, lane_room, most_lanes, Gave}
 use Rattle.std.specs.List.{remove}
 use Rattle.words.specs.BodyWords.{body_words}
@@ -21,13 +21,21 @@ abbrev pub Packed : ℕ → List ℕ → Result Packet Refusal → Type 0
 Packed head body (Ok packet) = (length body ≤ longest_body) × (parcel_of packet ≡ record { head = head; body = body })
 Packed head body (Err e) = (longest_body < length body) × (e ≡ BodyTooLong)
 
+-- so many elements of a ring, from a place on: past its last element comes its first again
+abbrev pub ring : {X : Type 0} → List X → ℕ → ℕ → List X
+ring slots first held = take held (drop first (slots ++ slots))
+
 -- the parcels that wait in a queue, in order of arrival
 abbrev pub parcels_of : Queue → List Parcel
-parcels_of queue = map parcel_of queue.packets.items
+parcels_of queue = ring (map parcel_of queue.packets) queue.first queue.held
+
+-- what waits in queues, each that of one lane
+abbrev pub lanes_in : List Queue → Lanes
+lanes_in queues = map parcels_of queues
 
 -- what waits on a carrier with this storage
 abbrev pub lanes_of : Storage → Lanes
-lanes_of storage = map parcels_of storage.queues.items
+lanes_of storage = lanes_in (take storage.count storage.queues)
 
 -- What adding a parcel to a lane answers and leaves.
 abbrev pub Pushed : List Parcel → Parcel → Result (Unit {0}) Refusal → List Parcel → Type 0

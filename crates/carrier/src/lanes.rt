@@ -1,12 +1,10 @@
-// The lanes of a carrier: the queue at k is lane k.
+// The lanes of a carrier: the queue at k is lane k, for each k below the count.
 // Assumes nothing.
 ghost use Rattle.carrier.specs.Parcels.{waiting, Counted, Posted, TakenAt};
 ghost use Rattle.carrier.specs.Stored.{lanes_of, place_of, Opened};
 
 use crate::storage::{End, Packet, Queue, Storage};
 use crate::traits::{ENOUGH_SPACE, MOST_LANES, Received};
-use arrayvec::ArrayVec;
-use std::array;
 use words::refusal::Refusal;
 
 impl Storage {
@@ -17,25 +15,32 @@ impl Storage {
         if lanes > MOST_LANES {
             return Err(Refusal::NoSuchLane);
         }
-        let mut queues = ArrayVec::from(array::from_fn(|_| Queue::default()));
-        queues.truncate(lanes);
-        Ok(Storage { queues })
+        Ok(Storage {
+            count: lanes,
+            queues: [Queue::empty(); MOST_LANES],
+        })
     }
 
     // How many parcels wait in a lane.
     pub(crate) fn count(&self, lane: usize) -> Result<usize, Refusal>
         ensures { Counted (lanes_of self.now) lane result }
     {
-        let queue = self.queues.get(lane).ok_or(Refusal::NoSuchLane)?;
-        Ok(queue.held())
+        if lane >= self.count {
+            return Err(Refusal::NoSuchLane);
+        }
+        Ok(self.queues[lane].held())
     }
 
     // Adds a parcel at the end of a lane.
     pub(crate) fn post(&mut self, lane: usize, head: u32, body: &[u32]) -> Result<(), Refusal>
         ensures { Posted (lanes_of self.old) lane head body.now result (lanes_of self.new) }
     {
-        let queue = self.queues.get_mut(lane).ok_or(Refusal::NoSuchLane)?;
-        queue.push(Packet::new(head, body)?)
+        let queues = &mut self.queues[0..self.count];
+        if lane >= queues.len() {
+            return Err(Refusal::NoSuchLane);
+        }
+        let packet = Packet::new(head, body)?;
+        queues[lane].push(packet)
     }
 
     // Removes the parcel at an end of a lane and gives it out.
@@ -47,10 +52,13 @@ impl Storage {
     ) -> Result<Received, Refusal>
         ensures { TakenAt (place_of end (waiting (lanes_of self.old) lane)) (lanes_of self.old) lane space.old result space.new (lanes_of self.new) }
     {
-        let queue = self.queues.get_mut(lane).ok_or(Refusal::NoSuchLane)?;
+        let queues = &mut self.queues[0..self.count];
+        if lane >= queues.len() {
+            return Err(Refusal::NoSuchLane);
+        }
         if space.len() < ENOUGH_SPACE {
             return Err(Refusal::SpaceTooShort);
         }
-        queue.pull(end, space)
+        queues[lane].pull(end, space)
     }
 }

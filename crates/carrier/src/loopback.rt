@@ -5,6 +5,7 @@ ghost use Rattle.carrier.specs.Stored.{parcel_of};
 
 use crate::storage::Packet;
 use crate::traits::{Carrier, LONGEST_BODY};
+use words::body::Body;
 use words::refusal::Refusal;
 
 // The answers of three takes after two posts.
@@ -21,7 +22,13 @@ pub fn take_packet<C: Carrier>(carrier: &mut C, lane: usize) -> Result<Packet, R
 {
     let mut words = [0; LONGEST_BODY];
     let received = carrier.take(lane, &mut words)?;
-    Packet::new(received.head, &words[..received.size])
+    Ok(Packet {
+        head: received.head,
+        body: Body {
+            size: received.size,
+            words,
+        },
+    })
 }
 
 // Posts two parcels to a lane in which nothing waits.

@@ -35,10 +35,11 @@ impl Packet {
         ensures size { result.size ≡ length (parcel_of self.now).body }
         ensures space { space.new ≡ laid (parcel_of self.now).body space.old }
     {
-        self.body.lay(space).unwrap();
+        let body = self.body();
+        space[0..body.len()].copy_from_slice(body);
         Received {
             head: self.head,
-            size: self.body().len(),
+            size: body.len(),
         }
     }
 }

@@ -68,5 +68,8 @@ pub trait OldestFirst: Carrier {
 pub fn any_waiting<C: Carrier>(carrier: &C) -> bool
     ensures { result ≡ any_waits (C.Carrier.lanes carrier.now) }
 {
-    (0..carrier.lane_count()).any(|lane| carrier.count(lane) != Ok(0))
+    (0..MOST_LANES)
+        .map(|lane| carrier.count(lane))
+        .find(|count| *count != Ok(0))
+        .is_some_and(|count| count.is_ok())
 }

@@ -6,6 +6,7 @@ use Rattle.carrier.proofs.loopback.post_both.Goals as goal
 
 pub returns : goal.returns
 returns g c =
+    let lanes = g.C.Carrier.lanes c.args.carrier.now in
     let told = c.in_ok-count.ensures in
-    let free : loopback_refusal (g.C.Carrier.lanes c.args.carrier.now) c.args.lane ≡ None = grind (arith, nat_tests) in
-    simp (← c.body.ensures.whole, ← c.body-2.ensures.whole) (filled _ _ _ _ _ _ c.post-2.result free c.body-2.ensures.short c.in_ok-post.ensures.1 c.post-2.ensures)
+    let free : loopback_refusal lanes c.args.lane ≡ None = grind (arith, nat_tests) in
+    filled lanes c.args.lane (g.C.Carrier.lanes c.post.new.self) (g.C.Carrier.lanes c.post-2.new.self) c.args.first.now c.args.second.now c.body.result.now c.body-2.result.now c.post-2.result free c.body.ensures.whole c.in_ok-post.ensures.1 c.body-2.ensures.whole c.post-2.ensures

@@ -1,18 +1,21 @@
-use Rattle.std.proofs.Common.{◌≡◌, Some, arith}
-use Rattle.std.specs.List.{remove, slice_get}
-use Rattle.std.proofs.lemmas.List.{length-map}
-use Rattle.carrier.specs.Stored.{parcel_of, parcels_of, place_of}
-use Rattle.carrier.proofs.Queues.{pulled_is, remove_last}
+use Rattle.std.proofs.Common.{◌≡◌, ◌-◌, sym, ap, ◌∙◌, arith}
+use Rattle.carrier.specs.Stored.{parcels_of, place_of}
+use Rattle.carrier.specs.Queues.{held_is, pulled_is, first_after}
 use Rattle.carrier.proofs.storage.Queue.pull.Goals as goal
 use Rattle.carrier.proofs.storage.Queue.pull.Goals.{in-Oldest, in-Newest}
 
 pub returns : goal.returns
 returns c =
-    let packets = c.args.self.now.packets.items in
-    let place = place_of c.args.end (parcels_of c.args.self.now) in
-    let found : slice_get packets place ≡ Some c.in_ok-ok_or.field-0 =
-    elim c.match-end.branch [ in-Oldest w ↦ grind arith | in-Newest w ↦ grind (arith, length-map packets parcel_of) ] in
-    let left : c.match-end.self.packets.items ≡ remove packets place =
-    elim c.match-end.branch [ in-Oldest w ↦ grind arith | in-Newest w ↦ grind (arith, remove_last packets, length-map packets parcel_of) ] in
-    let gave = c.give.ensures in
-    pulled_is packets _ place _ _ c.give.result _ found left gave.head gave.size gave.space
+    let queue = c.args.self.now in
+    let gave = c.give-received.ensures in
+    let place : c.match-end.place.0 ≡ place_of c.args.end (parcels_of queue) =
+    elim c.match-end.branch [
+      | in-Oldest w ↦ ap (λ p. p.0) w.place-is ∙ sym (ap (λ e. place_of e (parcels_of queue)) w.in-Oldest.is)
+      | in-Newest w ↦ ap (λ p. p.0) w.place-is ∙ ap (λ n. n - 1) (sym (held_is queue)) ∙ sym (ap (λ e. place_of e (parcels_of queue)) w.in-Newest.is)
+    ] in
+    let first : c.match-end.place.1 ≡ first_after queue c.args.end =
+    elim c.match-end.branch [
+      | in-Oldest w ↦ ap (λ p. p.1) w.place-is ∙ sym (ap (first_after queue) w.in-Oldest.is)
+      | in-Newest w ↦ ap (λ p. p.1) w.place-is ∙ sym (ap (first_after queue) w.in-Newest.is)
+    ] in
+    pulled_is queue c.args.end c.match-end.place.0 c.match-end.place.1 c.index-self-self.result c.args.space.now c.give-received.result c.give-received.new.space (omega arith) place first gave.head gave.size gave.space

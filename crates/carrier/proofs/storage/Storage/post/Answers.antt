@@ -1,12 +1,12 @@
-use Rattle.std.proofs.Common.{◌≡◌, ◌<◌, length, slice_index_or, arith}
-use Rattle.std.proofs.lemmas.Grind.{common_steps}
-use Rattle.carrier.proofs.Queues.{post_by_push}
+use Rattle.std.proofs.Common.{◌-◌, take, rules, arith}
+use Rattle.std.proofs.lemmas.Slice.{overwrites}
+use Rattle.carrier.specs.Stored.{parcel_of}
+use Rattle.carrier.specs.Stores.{post_by_push}
 use Rattle.carrier.proofs.storage.Storage.post.Goals as goal
 
 pub returns : goal.returns
 returns c =
-    let queues = c.args.self.now.queues.items in
-    let here : c.args.lane < length queues = grind (arith, common_steps) in
-    let was : c.in_ok-queue.queue.now ≡ slice_index_or queues c.args.lane c.in_ok-queue.queue.now = grind (arith, common_steps) in
-    let made = c.in_ok-new.ensures in
-    post_by_push queues c.args.lane _ c.push.new.self here was _ _ _ c.push.result made.0 made.1 c.push.ensures
+    let made = c.in_ok-packet.ensures in
+    let queues = take (c.args.self.now.count - 0) c.args.self.now.queues in
+    let told = post_by_push queues c.args.lane c.index-queues-lane.result c.push.new.self c.args.head c.args.body.now (parcel_of c.in_ok-packet.packet) c.push.result (omega arith) made.0 made.1 c.push.ensures in
+    search (rules, overwrites, told)
