@@ -65,11 +65,16 @@ pub trait OldestFirst: Carrier {
 }
 
 // Whether a parcel waits on any lane of a carrier.
+// A loop: it counts each lane once, up to the first that is not there or not empty. By `map` and `find` a lane takes twice the time.
 pub fn any_waiting<C: Carrier>(carrier: &C) -> bool
     ensures { result ≡ any_waits (C.Carrier.lanes carrier.now) }
 {
-    (0..MOST_LANES)
-        .map(|lane| carrier.count(lane))
-        .find(|count| *count != Ok(0))
-        .is_some_and(|count| count.is_ok())
+    for lane in 0..MOST_LANES {
+        match carrier.count(lane) {
+            Ok(0) => {}
+            Ok(_) => return true,
+            Err(_) => return false,
+        }
+    }
+    false
 }

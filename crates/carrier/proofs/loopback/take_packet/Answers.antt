@@ -1,3 +1,4 @@
+use Rattle.std.proofs.Common.{arith}
 use Rattle.carrier.specs.Parcels.{waiting, at_place}
 use Rattle.carrier.proofs.Loops.{read_back}
 use Rattle.carrier.proofs.loopback.take_packet.Goals as goal
@@ -8,4 +9,4 @@ returns g c =
     let place = told.0 in
     let gave = told.1.1 in
     let parcel = at_place (waiting (g.C.Carrier.lanes c.args.carrier.now) c.args.lane) place in
-    (told.1.0, (place, gave.within, read_back parcel c.in_ok-received.received.head c.in_ok-received.received.size _ c.take.new.space gave.head_is gave.size_is gave.space_is, told.1.2))
+    (told.1.0, (place, gave.within, read_back parcel _ _ _ _ (omega (arith, gave.head_is)) gave.size_is gave.space_is, told.1.2))
