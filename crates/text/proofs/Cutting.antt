@@ -8,7 +8,15 @@ abbrev pub NoneBefore : ℕ → List ℕ → ℕ → Type 0
 NoneBefore byte bs n = (k : ℕ) → k < n → get_or bs k 0 ≡ byte → ⊥
 
 module _ (byte : ℕ) where
-  -- bytes in which it does not stand are one piece, and the empty rest gives nothing, unless there are no bytes
+  -- bytes in which it does not stand are one piece
+  pub cut_whole : (bs : List ℕ) → NoneBefore byte bs (length bs) → cut_at byte ([] ∷ []) bs ≡ bs ∷ []
+  cut_whole [] none = refl
+  cut_whole (b ∷ bs) none =
+      let other = none 0 (omega arith) in
+      let rest = cut_whole bs (λ k h. none (suc k) (omega arith)) in
+      grind (arith, nat_tests)
+
+  -- the same where the empty rest gives nothing, unless there are no bytes
   pub cut_last : (b : ℕ) (bs : List ℕ) → NoneBefore byte (b ∷ bs) (length (b ∷ bs)) → cut_at byte [] (b ∷ bs) ≡ (b ∷ bs) ∷ []
   cut_last b [] none = let other = none 0 (omega arith) in grind (arith, nat_tests)
   cut_last b (next ∷ bs) none =

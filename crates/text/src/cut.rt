@@ -1,4 +1,4 @@
-// Where bytes are cut: at the first place of one of them, as a line at a space.
+// Where a byte stands among others, for callers that cut there: the crates here cut by the library's `split`.
 // Assumes nothing.
 ghost use Rattle.std.specs.Prelude.{◌≡◌, ℕ, ◌<◌, ◌≤◌, length, ◌≢◌, slice_index};
 

@@ -1,9 +1,8 @@
 // Reading a number of a line.
 // Assumes nothing.
 ghost use Rattle.std.specs.Prelude.{◌≡◌};
-ghost use Rattle.text.specs.Numbers.{number_of, all_digits};
+ghost use Rattle.text.specs.Numbers.{number_of};
 
-use std::str;
 use words::refusal::Refusal;
 
 // How many digits a number may have.
@@ -13,16 +12,11 @@ pub const DIGITS: usize = 6;
 pub fn number(digits: &[u8]) -> Result<usize, Refusal>
     ensures { result ≡ number_of digits.now }
 {
-    if digits.len() > DIGITS || !all_digits(digits) {
+    if digits.is_empty() || digits.len() > DIGITS {
         return Err(Refusal::BadLine);
     }
-    let text = str::from_utf8(digits).unwrap();
-    text.parse().map_err(|_| Refusal::BadLine)
-}
-
-// Whether every byte is a decimal digit.
-fn all_digits(bytes: &[u8]) -> bool
-    ensures { result ≡ all_digits bytes.now }
-{
-    bytes.iter().all(|byte| byte.is_ascii_digit())
+    digits.iter().try_fold(0, |value, digit| match digit {
+        b'0'..=b'9' => Ok(value * 10 + usize::from(*digit - b'0')),
+        _ => Err(Refusal::BadLine),
+    })
 }
