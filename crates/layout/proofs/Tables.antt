@@ -13,15 +13,11 @@ use Rattle.std.proofs.lemmas.Iterator.{maps, YieldsList-from_range, YieldsList-f
 use Rattle.std.proofs.lemmas.Iterator.Consumers.{YieldsList-at, max_from_yields_List}
 use Rattle.std.proofs.lemmas.Iterator.Adapters.{option_map_id}
 use Rattle.std.proofs.lemmas.List.FromFn.{map-range_with_len_more}
-use Rattle.std.proofs.Common.{Option, lit<, length-append, map, inl, inr, true, false, leb, ◌<◌, ◌≤◌, ◌^◌, ◌-◌, ◌/◌, ◌%◌, arith, length, fold, refl, [], ◌∷◌, ◌≡◌, ℕ, zero, suc, ◌+◌, max, List, ◌++◌, sym, ap, ◌∙◌, add-zero, add-suc, suc-add, zero-add, add-one}
+use Rattle.std.proofs.Common.{Option, map, fold, refl, [], ◌∷◌, ◌≡◌, ℕ, zero, suc, ◌+◌, max, List, ◌++◌, sym, ap, ◌∙◌, add-zero, add-suc, suc-add, zero-add, add-one}
 use Rattle.std.proofs.lemmas.List.{append_assoc, append-nil}
 use Rattle.std.proofs.lemmas.List.Sums.{fold-append}
 use native.Mathlib.Nat.{zero-max, sub-zero}
-use Rattle.std.specs.Fmt.{styled_decimal, padded_integral, format_spec, char_count, decimal}
-use Rattle.std.proofs.lemmas.Fmt.{decimal_digit, decimal_step, decimal_nonempty}
-use Rattle.std.proofs.lemmas.Str.{encode_ascii}
-use Rattle.std.proofs.lemmas.Bool.{cases_lt, le-leb, lt-leb}
-use Rattle.layout.specs.Tables.{greatest, texts, two_places}
+use Rattle.layout.specs.Tables.{greatest, texts}
 
 reduced : (values : List ℕ) → unwrap_or (reduce max values) 0 ≡ fold max 0 values
 reduced [] = refl
@@ -48,22 +44,6 @@ texts_last text a (suc n) =
     let on = texts_last text (a + 1) n in
     let place : a + 1 + n ≡ a + suc n = rw (add-one, suc-add, add-suc) in
     ap (λ t. text a ++ t) (on ∙ rw place) ∙ sym (append_assoc (text a) (texts text (a + 1) n) (text (a + suc n)))
-
-two_digits : (n : ℕ) → 10 ≤ n → n < 2 ^ 64 → 2 - length (decimal n) ≡ 0
-two_digits n h small =
-    let split : length (decimal n) ≡ length (decimal (n / 10)) + 1 = ap length (decimal_step n h small) ∙ length-append (decimal (n / 10)) ((48 + n % 10) ∷ []) in
-    omega (arith, decimal_nonempty (n / 10) (omega arith))
-
-padded_two_places : (n : ℕ) → n < 2 ^ 64 → padded_integral (format_spec 32 0 0 2 (2 ^ 64 - 1)) false [] (decimal n) ≡ two_places n
-unfolding padded_integral char_count
-padded_two_places n small = elim (cases_lt n 10) [
-  | inl h ↦ let t : leb n 9 ≡ true = le-leb n 9 (omega arith) in rw (t, decimal_digit n h, encode_ascii 32 (lit< tt))
-  | inr h ↦ let f : leb n 9 ≡ false = lt-leb n 9 (omega arith) in rw (f, two_digits n h small) (append-nil (decimal n))
-]
-
--- what a hole of two places writes
-pub styled_two_places : (s : _) (n : ℕ) → s ≡ format_spec 32 0 0 2 (2 ^ 64 - 1) → n < 2 ^ 64 → styled_decimal s n ≡ two_places n
-styled_two_places s n e small = ap (λ t. styled_decimal t n) e ∙ padded_two_places n small
 
 -- one text more
 pub one_more : (front middle : List ℕ) (text : ℕ → List ℕ) (n : ℕ) (next : List ℕ) → next ≡ text n

@@ -25,7 +25,8 @@ pub fn quote_all(heap: Global, text: &[u8]) -> Result<String, AllocError>
 {
     let mut out = String::new(heap);
     for line in text.split_inclusive(|byte| *byte == b'\n') {
-        write_quote(heap, &mut out, line.strip_suffix(b"\n").unwrap_or(line))?;
+        let content = line.strip_suffix(b"\n").unwrap_or(line);
+        write_quote(heap, &mut out, content)?;
     }
     Ok(out)
 }

@@ -1,7 +1,7 @@
 // The table of cable steps between the panels of a layout, as it is printed.
 // Assumes nothing.
 ghost use Rattle.std.specs.Prelude.{◌≡◌, ◌<◌, length, Some};
-ghost use Rattle.layout.specs.Tables.{farthest_from, farthest, row, table};
+ghost use Rattle.layout.specs.Tables.{two_places, farthest_from, farthest, row, table};
 ghost use Rattle.tree.specs.Answers.{parents};
 ghost use Rattle.tree.specs.Tree.{distance};
 
@@ -19,6 +19,10 @@ struct Row<'a> {
     panel: usize,
     ghost exists: { panel < length (parents tree.now) },
 }
+
+// A number in at least two places.
+#[derive(Clone, Copy)]
+struct TwoPlaces(usize);
 
 impl<'a> Table<'a> {
     // The row of a panel that exists.
@@ -76,15 +80,27 @@ impl fmt::Display for Table<'_> {
     }
 }
 
+impl fmt::Display for TwoPlaces {
+    ghost output = { λ n. Some (two_places n.0) };
+
+    fn fmt<W: fmt::Write>(&self, f: &mut fmt::Formatter<W>) -> fmt::Result {
+        let number = self.0;
+        if number < 10 {
+            write!(f, " {number}")
+        } else {
+            write!(f, "{number}")
+        }
+    }
+}
+
 impl fmt::Display for Row<'_> {
     ghost output = { λ r. Some (row (parents r.tree.now) r.panel) };
 
     fn fmt<W: fmt::Write>(&self, f: &mut fmt::Formatter<W>) -> fmt::Result {
-        let panel = self.panel;
-        write!(f, "{panel:2}:")?;
+        write!(f, "{}:", TwoPlaces(self.panel))?;
         // A `for`, as for the rows.
         for to in 0..self.tree.panels() {
-            write!(f, " {:2}", self.steps(to))?;
+            write!(f, " {}", TwoPlaces(self.steps(to)))?;
         }
         writeln!(f)
     }

@@ -58,7 +58,7 @@ below i (suc more) n h = let far = below i more n h in rw (suc-add, pow-suc) (om
 module _ {F : Type 0} (turn : F × ℕ → Bor ℕ → F × ℕ → Type 0)
     (digit : (p q : F × ℕ) (x : Bor ℕ) → turn p x q → (48 ≤ x.now) × (x.now ≤ 57) × (q.1 ≡ p.1 * 10 + (x.now - 48))) (bs : List ℕ) where
   -- the turns over the bytes that come next, each of which is a digit
-  pub read_turns : (xs : List (Bor ℕ)) (rest : List ℕ) (i : ℕ) (p q : F × ℕ) → drop i bs ≡ map (λ x. x.now) xs ++ rest → ReadSoFar bs i p.1
+  read_turns : (xs : List (Bor ℕ)) (rest : List ℕ) (i : ℕ) (p q : F × ℕ) → drop i bs ≡ map (λ x. x.now) xs ++ rest → ReadSoFar bs i p.1
       → FoldsTo turn p xs q → ReadSoFar bs (i + length xs) q.1
   read_turns [] rest i p q next far turns = rw add-zero (subst (λ r. ReadSoFar bs i r.1) turns far)
   read_turns (x ∷ xs) rest i p q next far turns =

@@ -13,4 +13,4 @@ loop-line-preserved c =
     quoted_more (split_inclusive_rest c.loop-line.line-iterator) (split_inclusive_rest c.next.new.self) c.in-Some.line c.strip_suffix.result
     step.1.0 step.0 step.1.1 cut.1 step.2 c.strip_suffix.ensures.cases
     (quoted_text c.args.text.now) (string_bytes c.loop-line.out) (string_bytes c.write_quote.new.out) c.loop-line.invariant
-    (c.in_ok-write_quote.ensures ∙ ap (λ l. string_bytes c.loop-line.out ++ quoted l.now) c.unwrap_or.ensures)
+    (c.in_ok-write_quote.ensures ∙ ap (λ l. string_bytes c.loop-line.out ++ quoted l.now) c.unwrap_or-content.ensures)
