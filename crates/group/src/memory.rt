@@ -24,7 +24,8 @@ pub struct Core {
 }
 
 // A group: panels on a tree of cable that share one book, over a carrier and a kind of book. Nothing else changes the carrier.
-// No Model: a type could not lead back to itself through a group, nor could `Core` be Copy. Clauses read the world of a group by `whole`.
+// No Model: through one a type could not lead back to itself, and callers would not know what the memory's types say, as that a group has
+// at most 32 panels. Clauses read the world of a group by `whole`.
 #[derive(Drop)]
 pub struct Group<C, K> {
     pub(crate) carrier: C,

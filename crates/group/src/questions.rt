@@ -1,10 +1,9 @@
 // Questions to a group, which change nothing.
 // Assumes nothing.
-ghost use Rattle.std.specs.Prelude.{◌≡◌, ◌≤◌, length};
+ghost use Rattle.std.specs.Prelude.{◌≡◌, length};
 ghost use Rattle.arrow.specs.Mask.{waiting_word, how_many_wait};
 ghost use Rattle.arrow.specs.World.{is_open};
 ghost use Rattle.group.specs.Whole.{whole};
-ghost use Rattle.tree.specs.Tree.{most_panels};
 
 use crate::memory::Group;
 use arrow::counts::Counts;
@@ -28,10 +27,9 @@ impl<C: Carrier, K: Kind> Group<C, K> {
         self.core.panels.is_some()
     }
 
-    // How many panels there are, none while the group is not open, and 32 at most.
+    // How many panels there are, none while the group is not open.
     pub fn panels(&self) -> usize
-        ensures answer { result ≡ length (whole C.lanes K.book self.now).tree }
-        ensures within { result ≤ most_panels }
+        ensures { result ≡ length (whole C.lanes K.book self.now).tree }
     {
         self.each().len()
     }

@@ -1,4 +1,4 @@
 pub mod Quoting
 pub mod Reading
-pub mod Roads
+pub mod Yielded
 pub mod Tables

@@ -16,7 +16,7 @@ use Rattle.text.proofs.Cutting.{NoneBefore, cut_whole, cut_first}
 use Rattle.std.proofs.lemmas.Bool.{cases_lt}
 use Rattle.words.specs.declared.refusal.Refusal.{Refusal}
 use Rattle.layout.specs.Layouts.{joined, numbers_of}
-use Rattle.layout.proofs.Roads.{Next}
+use Rattle.layout.proofs.Yielded.{Next}
 
 grown_is : (b : ℕ) (parts : List (List ℕ)) → onto_first b parts ≡ grown b parts
 grown_is b [] = refl

@@ -73,19 +73,19 @@ module _ {F : Type 0} (turn : F × ℕ → Bor ℕ → F × ℕ → Type 0)
       let place : i + 1 + length xs ≡ i + suc (length xs) = omega arith in
       subst (λ n. ReadSoFar bs n q.1) place (read_turns xs rest (i + 1) turns.0 q (rw add-one others) on turns.2)
 
-  module _ {S : Type 0} {steps : S → Option (Bor ℕ) → S → Type 0} {s : S} (road : YieldsList steps (λ x. x.now) s bs) (start : F) (xs : List (Bor ℕ)) (t : S)
+  module _ {S : Type 0} {steps : S → Option (Bor ℕ) → S → Type 0} {s : S} (yields : YieldsList steps (λ x. x.now) s bs) (start : F) (xs : List (Bor ℕ)) (t : S)
       (given : Yields steps s xs t) (q : F × ℕ) (turns : FoldsTo turn (start, 0) xs q) where
     -- the turns so far, at an iterator that gives the bytes
     read_front : ReadSoFar bs (length xs) q.1
     read_front =
         let cut : bs ≡ map (λ x. x.now) xs ++ drop (length xs) bs
-        = sym (take-append-drop (length xs) bs) ∙ ap (λ ds. ds ++ drop (length xs) bs) (sym (YieldsList-so_far road xs t given)) in
+        = sym (take-append-drop (length xs) bs) ∙ ap (λ ds. ds ++ drop (length xs) bs) (sym (YieldsList-so_far yields xs t given)) in
         rw (sym (zero-add (length xs))) (read_turns xs (drop (length xs) bs) 0 (start, 0) q cut (refl, refl, lit< tt) turns)
 
     -- at each of them the value is small
     pub read_small : (x : Bor ℕ) (u : S) → steps t (Some x) u → length bs ≤ 6 → q.1 < 10 ^ 6
     read_small x u step few =
-        let turn = YieldsList-turn road xs t given (Some x) u x refl step in
+        let turn = YieldsList-turn yields xs t given (Some x) u x refl step in
         let more : 6 - length xs + length xs ≡ 6 = omega (arith, turn.0) in
         subst (λ n. q.1 < 10 ^ n) more (below (length xs) (6 - length xs) q.1 read_front.2)
 
@@ -93,10 +93,10 @@ module _ {F : Type 0} (turn : F × ℕ → Bor ℕ → F × ℕ → Type 0)
     pub read_ends : (o : Option (Bor ℕ)) (u : S) → steps t o u → (r : Result ℕ Refusal) → {Stops : Bor ℕ → Type 0} → MatchOption o (r ≡ Ok q.1) Stops
         → ((x : Bor ℕ) → Stops x → ((x.now < 48) ⊎ (57 < x.now)) × (r ≡ Err BadLine)) → 1 ≤ length bs → length bs ≤ 6 → r ≡ number_of bs
     read_ends None u step r all stops low high =
-        let long = (YieldsList-end road xs t given None u refl step).1 in
+        let long = (YieldsList-end yields xs t given None u refl step).1 in
         all ∙ read_all bs (length xs) q.1 (omega (arith, long)) low high read_front
     read_ends (Some x) u step r out stops low high =
-        let next = YieldsList-turn road xs t given (Some x) u x refl step in
+        let next = YieldsList-turn yields xs t given (Some x) u x refl step in
         let bad = stops x out in
         let here : x.now ≡ get_or bs (length xs) 0 = next.1 ∙ get_or_default bs (length xs) x.now 0 next.0 in
         bad.1 ∙ read_bad bs (length xs) q.1 next.0 (rw (sym here) bad.0) read_front

@@ -4,7 +4,7 @@ use Rattle.std.proofs.lemmas.List.{map-append}
 use Rattle.std.proofs.lemmas.Result.{err_from_is_err_and}
 use Rattle.layout.specs.Layouts.{numbers_of}
 use Rattle.layout.proofs.Reading.{pieces_given, pieces_more, pieces_bad}
-use Rattle.layout.proofs.Roads.{next_item, all_items}
+use Rattle.layout.proofs.Yielded.{next_item, all_items}
 use Rattle.layout.proofs.read.numbers.Goals as goal
 
 pub returns-in_err-number : goal.returns-in_err-number
